@@ -1,0 +1,5 @@
+pub mod Tests
+pub mod WordLaws
+pub mod ByteLaws
+pub mod WindowLaws
+pub mod TableLaws

@@ -1,0 +1,54 @@
+-- All 64 words are tested: the loop keeps `Tested`.
+use Prim.Native.Nat.{_-_}
+use borrow.Author.Needs.{needs}
+use Rattle.memory.specs.Tables.{prgShows}
+use Rattle.memory.specs.Words.{word, pageOf}
+use Rattle.memory.specs.declared.PageWord.{PageWord}
+use Rattle.memory.proofs.TableLaws.{Tested, test-first, test-next, test-last}
+use Rattle.memory.proofs.tables.prg_table_ok.Statement.{statement}
+use Rattle.memory.proofs.tables.prg_table_ok.Tie as tie
+
+abbrev Inv-loop : tie.InvT-loop
+Inv-loop prg-len ram-len pages ok₀ i₀ ok i = Tested (λ (w : PageWord). prgShows prg-len ram-len (pageOf w)) pages ok i
+
+abbrev μ-loop : tie.MeasureT-loop
+μ-loop prg-len ram-len pages ok₀ i₀ ok i = 64 - i
+
+loop-holds : tie.Need-loop-holds Inv-loop μ-loop
+loop-holds c = test-first _ _
+
+mul-w : tie.Need-mul-w Inv-loop μ-loop
+mul-w c = search needs
+
+array-copy-out-w : tie.Need-array-copy-out-w Inv-loop μ-loop
+array-copy-out-w c = search needs
+
+prg-word-ok-requires : tie.Need-prg-word-ok-requires Inv-loop μ-loop
+prg-word-ok-requires c κs = search needs
+
+add-i : tie.Need-add-i Inv-loop μ-loop
+add-i c = search needs
+
+loop-less : tie.Need-loop-less Inv-loop μ-loop
+loop-less c = search needs
+
+loop-again : tie.Need-loop-again Inv-loop μ-loop
+loop-again c = test-next _ _ _ _ (word 0) _ (c .before .before .before .loop .inv) (search needs) (c .prg-word-ok .ensures)
+
+returns : tie.Need-returns Inv-loop μ-loop
+returns c = test-last _ _ _ _ (c .before .loop .inv) (search needs)
+
+pub prg-table-ok-spec : {M : Type 1} → statement M
+prg-table-ok-spec =
+    tie.close
+    (tie.spec
+    Inv-loop
+    μ-loop
+    loop-holds
+    mul-w
+    array-copy-out-w
+    prg-word-ok-requires
+    add-i
+    loop-less
+    loop-again
+    returns)

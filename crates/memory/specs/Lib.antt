@@ -1,0 +1,5 @@
+pub mod Words
+pub mod Bytes
+pub mod Windows
+pub mod Tables
+pub mod Promise

@@ -1,0 +1,17 @@
+-- What is promised of pages, over every page, buffer and window size: pinned by the contract of `promises`.
+use Prim.Native.Nat.{ℕ, _+_, _*_, _/_, _%_, _≤_}
+use mathlib.Core.Bool.{true}
+use mathlib.Core.Path.{_≡_}
+use Rattle.memory.specs.declared.Page.{Page}
+use Rattle.memory.specs.Words.{named, wordOf, pageOf}
+use Rattle.memory.specs.Windows.{pageStart}
+
+pub record Pages : Type 0 where
+  -- taking a word apart undoes making it
+  pub undone : (p : Page) → named p ≡ true → pageOf (wordOf p) ≡ p
+  -- two different pages have different words
+  pub apart : (p q : Page) → named p ≡ true → named q ≡ true → wordOf p ≡ wordOf q → p ≡ q
+  -- a whole page lies in its buffer, for every window size
+  pub inside : (len size bank i : ℕ) → 1 ≤ len → len % 1024 ≡ 0 → pageStart len size bank i / 1024 * 1024 + 1024 ≤ len
+  -- 01, rule 2: "CHR windows are one page, number mod pages."
+  pub one-page : (len number : ℕ) → 1 ≤ len → len % 1024 ≡ 0 → pageStart len 1024 number 0 / 1024 ≡ number % (len / 1024)

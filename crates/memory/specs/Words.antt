@@ -1,0 +1,66 @@
+-- Page words: which word names which page. What the customer must believe of them is short: blank is one word of its own, and each page
+-- that a buffer within 01's lengths can have, marked writable or not, has a word of its own (`proofs/WordLaws.antt`). The numbers are chosen
+-- so that the words that a page table may hold lie in a row (`tables.rt`).
+-- 01, module 1: "1,024 bytes each; 64 PRG, 16 CHR. Blank reads 0 and takes no write."
+use Prim.Native.Nat.{ℕ, _+_, _*_, _-_, _/_, _%_}
+use mathlib.Core.Bool.{Bool, true, false, _&&_, not}
+use lib.Dec.{eqb, ltb}
+use Rattle.memory.specs.declared.Page.{Page}
+use Rattle.memory.specs.declared.PageWord.{PageWord}
+use Rattle.memory.specs.declared.Src.{Src}
+use Rattle.memory.specs.declared.Src.the-variants.{Blank, PrgRom, PrgRam, Chr, CiRam, ExRam}
+
+-- One of two, by a test.
+abbrev pub pick : {A : Type 0} → Bool → A → A → A
+pick true a b = a
+pick false a b = b
+
+abbrev pub word : ℕ → PageWord
+word n = record { 0 = n }
+
+abbrev pub page : Src → ℕ → Bool → Page
+page s i w = record { src = s; index = i; writable = w }
+
+abbrev pub blank : Page
+blank = page Blank 0 false
+
+-- The pages that have a word. A PRG-ROM has at most 1,024 pages, a PRG-RAM 64, CHR 1,024, CIRAM two, ExRAM one.
+-- 01, "STATE ranges": "Blank pages, PRG-ROM .. are never marked writable."
+unfoldable pub namedAs : Src → ℕ → Bool → Bool
+namedAs Blank i w = eqb i 0 && not w
+namedAs PrgRom i w = ltb i 1024 && not w
+namedAs PrgRam i w = ltb i 64
+namedAs Chr i w = ltb i 1024
+namedAs CiRam i w = ltb i 2
+namedAs ExRam i w = eqb i 0
+
+abbrev pub named : Page → Bool
+named p = namedAs (p .src) (p .index) (p .writable)
+
+abbrev pub flag : Bool → ℕ
+flag true = 1
+flag false = 0
+
+-- The word's number, in the order of the drawing above `word_of`.
+unfoldable pub numberOf : Src → ℕ → Bool → ℕ
+numberOf Blank i w = 0
+numberOf ExRam i w = 1 + flag w
+numberOf PrgRom i w = 3 + i % 1024
+numberOf Chr i true = 2050 - i % 1024
+numberOf CiRam i w = 2051 + 2 * (i % 2) + flag w
+numberOf Chr i false = 2055 + i % 1024
+numberOf PrgRam i w = 4294967295 - (2 * (i % 64) + flag w)
+
+abbrev pub wordOf : Page → PageWord
+wordOf p = word (numberOf (p .src) (p .index) (p .writable))
+
+-- The page that a word names. Numbers that no page was given name CHR pages past every buffer.
+unfoldable pub pageOf : PageWord → Page
+pageOf p =
+    pick (ltb (p .0) 1) blank
+    (pick (ltb (p .0) 3) (page ExRam 0 (eqb (p .0) 2))
+    (pick (ltb (p .0) 1027) (page PrgRom (p .0 - 3) false)
+    (pick (ltb (p .0) 2051) (page Chr (2050 - p .0) true)
+    (pick (ltb (p .0) 2055) (page CiRam ((p .0 - 2051) / 2) (eqb ((p .0 - 2051) % 2) 1))
+    (pick (ltb (p .0) 4294967168) (page Chr (p .0 - 2055) false)
+    (page PrgRam ((4294967295 - p .0) / 2) (eqb ((4294967295 - p .0) % 2) 1)))))))

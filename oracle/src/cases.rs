@@ -1,0 +1,136 @@
+//! Case files: the fixed list as text, as bytes, and its answers.
+//!
+//! Text: one case a line, `name | cartridge | hex of the trace`; `#` starts a comment line, and a
+//! line `#: words` above a case spells its trace (see `spell`). Bytes, for each case: 1; PRG-ROM
+//! length / 8,192 in two bytes, low one first; CHR length / 1,024 likewise; PRG-RAM length / 1,024
+//! in one; 1 if CHR is writable, else 0; the mirroring's number; the fill seed; the trace's length
+//! in two bytes, low one first; the trace.
+
+use crate::{
+    board::Board,
+    cartridge::{Cartridge, MIRRORINGS},
+    replay, spell, windows,
+};
+use std::{fs, path::Path};
+
+#[derive(Debug, Clone)]
+pub struct Case {
+    pub name: String,
+    pub cartridge: Cartridge,
+    pub trace: Vec<u8>,
+    /// The trace in words, where the text gives them.
+    pub words: Option<String>,
+}
+
+/// Read the text of a case file.
+pub fn parse(text: &str) -> Result<Vec<Case>, String> {
+    let mut cases = Vec::new();
+    let mut words = None;
+    for (number, line) in text.lines().enumerate() {
+        if let Some(spelled) = line.strip_prefix("#:") {
+            words = Some(spelled.trim().to_string());
+        } else if !line.trim().is_empty() && !line.starts_with('#') {
+            let case = parse_case(line, words.take());
+            cases.push(case.map_err(|message| format!("line {}: {message}", number + 1))?);
+        }
+    }
+    Ok(cases)
+}
+
+fn parse_case(line: &str, words: Option<String>) -> Result<Case, String> {
+    let parts: Vec<&str> = line.split('|').map(str::trim).collect();
+    let [name, cartridge, hex] = parts[..] else {
+        return Err("name | cartridge | hex".to_string());
+    };
+    Ok(Case {
+        name: name.to_string(),
+        cartridge: Cartridge::parse(cartridge)?,
+        trace: spell::from_hex(hex)?,
+        words,
+    })
+}
+
+impl Case {
+    /// The lines that replay prints for this case.
+    pub fn answers(&self) -> Result<String, String> {
+        let refused = |refusal| format!("{}: load is refused, {refusal:?}", self.name);
+        let mut board = Board::load(self.cartridge).map_err(refused)?;
+        Ok(replay::lines(&mut board, &self.trace))
+    }
+
+    /// The case in bytes.
+    pub fn write(&self, out: &mut Vec<u8>) {
+        let c = &self.cartridge;
+        let two = |number: usize| u16::try_from(number).expect("two bytes").to_le_bytes();
+        let one = |number: usize| u8::try_from(number).expect("one byte");
+        let mirroring = MIRRORINGS.iter().position(|(m, _)| *m == c.mirroring);
+        out.push(1);
+        out.extend(two(c.prg / 8_192));
+        out.extend(two(c.chr / 1_024));
+        out.push(one(c.ram / 1_024));
+        out.push(u8::from(c.chr_writable));
+        out.push(one(mirroring.expect("one of the five")));
+        out.push(c.fill);
+        out.extend(two(self.trace.len()));
+        out.extend(&self.trace);
+    }
+}
+
+/// Read the bytes of a case file; a case is named by its number.
+pub fn read(bytes: &[u8]) -> Result<Vec<Case>, String> {
+    let mut cases: Vec<Case> = Vec::new();
+    let mut rest = bytes;
+    while !rest.is_empty() {
+        let name = format!("case {}", cases.len());
+        let (head, after) = rest.split_at_checked(11).ok_or(format!("{name} is cut"))?;
+        let two = |at: usize| usize::from(u16::from_le_bytes([head[at], head[at + 1]]));
+        let cut = after.split_at_checked(two(9));
+        let (trace, after) = cut.ok_or(format!("{name} is cut"))?;
+        let mirroring = MIRRORINGS.get(usize::from(head[7]));
+        let cartridge = Cartridge {
+            prg: two(1) * 8_192,
+            chr: two(3) * 1_024,
+            ram: usize::from(head[5]) * 1_024,
+            chr_writable: head[6] & 1 == 1,
+            mirroring: mirroring.ok_or(format!("{name}: no such mirroring"))?.0,
+            fill: head[8],
+            ..Cartridge::default()
+        };
+        cases.push(Case {
+            name,
+            cartridge,
+            trace: trace.to_vec(),
+            words: None,
+        });
+        rest = after;
+    }
+    Ok(cases)
+}
+
+/// The bytes of cases.
+pub fn bytes(cases: &[Case]) -> Vec<u8> {
+    let mut out = Vec::new();
+    cases.iter().for_each(|case| case.write(&mut out));
+    out
+}
+
+/// The lines of cases, one case after the other.
+pub fn answers(cases: &[Case]) -> Result<String, String> {
+    cases.iter().map(Case::answers).collect()
+}
+
+/// Write anew what is made from the case files of a directory, and the windows.
+pub fn fix(dir: &Path) -> Result<(), String> {
+    let failed = |error: std::io::Error| error.to_string();
+    let entries = fs::read_dir(dir).map_err(failed)?;
+    for path in entries.map(|entry| entry.map(|entry| entry.path())) {
+        let path = path.map_err(failed)?;
+        if path.extension().is_some_and(|extension| extension == "txt") {
+            let text = fs::read_to_string(&path).map_err(failed)?;
+            let cases = parse(&text).map_err(|message| format!("{}: {message}", path.display()))?;
+            fs::write(path.with_extension("cases"), bytes(&cases)).map_err(failed)?;
+            fs::write(path.with_extension("answers"), answers(&cases)?).map_err(failed)?;
+        }
+    }
+    fs::write(dir.join("windows.answers"), windows::lines()).map_err(failed)
+}
