@@ -3,3 +3,4 @@ pub mod Bytes
 pub mod Windows
 pub mod Tables
 pub mod Promise
+pub mod Tests

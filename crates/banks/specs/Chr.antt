@@ -1,0 +1,42 @@
+-- CHR banks. 01, rule 5: "Page = ((bank OR hi) << shift) + place in window; shifts 3, 2, 1, 0. Set: sprite if 8x8, or tile count 32-39, or out
+-- of frame with the last CHR write a sprite one; else background."
+use Prim.Native.Nat.{ℕ, _+_, _-_, _*_, _/_, _%_, _^_}
+use mathlib.Core.Bool.{Bool, true, false, _||_, not, _&&_}
+use mathlib.Core.List.{List}
+use lib.Bits.{bitOr}
+use lib.Dec.{eqb}
+use lib.ListN.{getD}
+use Rattle.memory.specs.declared.PageWord.{PageWord}
+use Rattle.memory.specs.declared.Src.the-variants.{Chr}
+use Rattle.memory.specs.Words.{pick}
+use Rattle.memory.specs.Windows.{chrWindow}
+use Rattle.registers.specs.declared.Regs.{Regs}
+use Rattle.banks.specs.Placed.{placed}
+
+-- "shifts 3, 2, 1, 0": how many pages a window of the mode has, two to the shift.
+unfoldable pub windowPages : ℕ → ℕ
+windowPages mode = pick (eqb mode 0) 8 (pick (eqb mode 1) 4 (pick (eqb mode 2) 2 1))
+
+-- A window of n pages goes by its last register, where each of its pages has one: place k's window has the places from k / n * n on.
+abbrev pub windowRegister : ℕ → ℕ → ℕ
+windowRegister n k = k / n * n + n - 1
+
+-- The sprites' registers are 0-7, the background's 8-15.
+abbrev pub setStart : Bool → ℕ
+setStart bg = pick bg 8 0
+
+-- "Page = ((bank OR hi) << shift) + place in window"
+unfoldable pub chrNumber : Regs → List ℕ → Bool → ℕ → ℕ
+chrNumber g b bg k =
+    bitOr (getD b (setStart bg + windowRegister (windowPages (g .«chr_mode»)) k) 0) (g .«chr_hi») * windowPages (g .«chr_mode») + k % windowPages (g .«chr_mode»)
+
+-- The table with the eight pattern pages mapped.
+unfoldable pub chrMapped : ℕ → Bool → Regs → List ℕ → Bool → List PageWord → List PageWord
+chrMapped chr asRam g b bg pages = placed pages 0 (λ (k : ℕ). chrWindow Chr chr (chrNumber g b bg k) asRam) 8
+
+-- "Set: sprite if 8x8, or tile count 32-39, or out of frame with the last CHR write a sprite one; else background."
+abbrev pub sprites : Bool → Bool → Bool → Bool → Bool
+sprites tall spriteFetch framed bgWritten = not tall || (spriteFetch || (not framed && not bgWritten))
+
+abbrev pub background : Bool → Bool → Bool → Bool → Bool
+background tall spriteFetch framed bgWritten = not (sprites tall spriteFetch framed bgWritten)

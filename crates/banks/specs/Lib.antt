@@ -1,0 +1,4 @@
+pub mod Placed
+pub mod Prg
+pub mod Chr
+pub mod Names

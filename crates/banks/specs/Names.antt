@@ -1,0 +1,25 @@
+-- Nametables. 01, rule 3: "$5105 gives four selectors of two bits." Rule 6: "Without nametable use ExRAM maps blank; Fill always maps blank".
+use Prim.Native.Nat.{ℕ, _*_, _/_, _%_, _^_}
+use mathlib.Core.Bool.{Bool, true, false}
+use mathlib.Core.List.{List}
+use lib.Dec.{eqb}
+use Rattle.memory.specs.declared.PageWord.{PageWord}
+use Rattle.memory.specs.declared.Src.the-variants.{CiRam, ExRam}
+use Rattle.memory.specs.Words.{pick, page, blank, wordOf}
+use Rattle.banks.specs.Placed.{placed}
+
+-- "four selectors of two bits": the i-th of them, counted round.
+unfoldable pub selector : ℕ → ℕ → ℕ
+selector n i = n / 4 ^ (i % 4) % 4
+
+-- 0 and 1 are CIRAM's two pages, 2 is ExRAM, 3 is Fill.
+unfoldable pub namePage : ℕ → Bool → PageWord
+namePage s asName =
+    pick (eqb s 0) (wordOf (page CiRam 0 true))
+    (pick (eqb s 1) (wordOf (page CiRam 1 true))
+    (pick (eqb s 2) (pick asName (wordOf (page ExRam 0 true)) (wordOf blank))
+    (wordOf blank)))
+
+-- The table with the nametable pages mapped: the four from $2000 on, and again from $3000 on.
+unfoldable pub namesMapped : ℕ → Bool → List PageWord → List PageWord
+namesMapped n asName pages = placed pages 8 (λ (k : ℕ). namePage (selector n k) asName) 8

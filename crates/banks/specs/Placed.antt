@@ -1,0 +1,8 @@
+-- A table with the n entries from a place on written anew.
+use Prim.Native.Nat.{ℕ, zero, suc, _+_}
+use mathlib.Core.List.{List}
+use lib.ListN.{set}
+
+unfoldable pub placed : {A : Type 0} → List A → ℕ → (ℕ → A) → ℕ → List A
+placed l at f zero = l
+placed l at f (suc n) = set (placed l at f n) (at + n) (f n)

@@ -1,0 +1,14 @@
+-- The line counter's part of refusal 7, by `line-over`: the code tests the counter before the line, the definition the number after it.
+use borrow.Author.Needs.{needs}
+use Rattle.scanline.proofs.StepLaws.{line-over}
+use Rattle.scanline.proofs.line_refused.Statement.{statement}
+use Rattle.scanline.proofs.line_refused.Tie as tie
+
+matched-requires : tie.Need-matched-requires
+matched-requires c κs = search needs
+
+returns : tie.Need-returns
+returns c = line-over _ _ _ (c .before .before .matched .ensures)
+
+pub line-refused-spec : {M : Type 1} → statement M
+line-refused-spec = tie.close (tie.spec matched-requires returns)

@@ -1,0 +1,24 @@
+-- One clock over the record: after a fetch, another idle clock, or the third one. By the laws of ClockLaws.
+use borrow.Author.Needs.{needs}
+use Rattle.scanline.specs.Clock.{tick}
+use Rattle.scanline.proofs.ClockLaws.{idle-on, idle-short, idle-third}
+use Rattle.scanline.proofs.record.ticked.Statement.{statement}
+use Rattle.scanline.proofs.record.ticked.Tie as tie
+
+returns : tie.Need-returns
+unfolding tick
+returns c = simp (c .if1 .taken)
+
+add-n : tie.Need-add-n
+add-n c = search needs
+
+returns-2 : tie.Need-returns-2
+unfolding tick
+returns-2 c = simp (c .before .before .before .if1 .left, idle-on _ (c .before .if2 .taken), idle-short _ (c .before .if2 .taken))
+
+returns-3 : tie.Need-returns-3
+unfolding tick
+returns-3 c = simp (c .before .before .if1 .left, idle-third _ (c .before .before .before .pre) (c .if2 .left))
+
+pub ticked-spec : {M : Type 1} → statement M
+ticked-spec = tie.close (tie.spec returns add-n returns-2 returns-3)

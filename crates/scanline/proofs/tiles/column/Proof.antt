@@ -1,0 +1,15 @@
+-- The sum fits within the tile count's range.
+use native.Mathlib.Omega.{arith}
+use borrow.Author.Needs.{needs}
+use borrow.Author.Tests.{leb-true}
+use Rattle.scanline.proofs.tiles.column.Statement.{statement}
+use Rattle.scanline.proofs.tiles.column.Tie as tie
+
+add-result : tie.Need-add-result
+add-result c = omega (arith, leb-true (c .args .tiles) 4294967293 (c .pre))
+
+returns : tie.Need-returns
+returns c = search needs
+
+pub column-spec : {M : Type 1} → statement M
+column-spec = tie.close (tie.spec add-result returns)

@@ -1,0 +1,41 @@
+-- One clock, over the part of the detector that it looks at and changes.
+-- 01, "Fetches, runs, breaks": "A break is .. each third clock of an unbroken row of idle clocks. A clock is idle if no such fetch came
+-- since the clock before, or since load."
+use Prim.Native.Nat.{ℕ, _+_, _%_}
+use mathlib.Core.Bool.{Bool, false, _&&_, not}
+use lib.Dec.{eqb}
+use Rattle.memory.specs.Words.{pick}
+use Rattle.scanline.specs.declared.Detector.{Detector}
+use Rattle.scanline.specs.declared.record.ClockRecord.{ClockRecord}
+
+-- 01, "What must change shape": the clock record is "reading, idle count, in-frame and previous address"
+abbrev pub recordOf : Detector → ClockRecord
+recordOf d = record { reading = d .reading; «idle_count» = d .«idle_count»; «in_frame» = d .«in_frame»; «prev_some» = d .«prev_some»; «prev_addr» = d .«prev_addr» }
+
+-- the detector with that part changed
+abbrev pub withRecord : Detector → ClockRecord → Detector
+withRecord d r = record {
+  «prev_some» = r .«prev_some»;
+  «prev_addr» = r .«prev_addr»;
+  «match_count» = d .«match_count»;
+  reading = r .reading;
+  «idle_count» = r .«idle_count»;
+  «in_frame» = r .«in_frame»;
+  scanline = d .scanline;
+  pending = d .pending;
+  «irq_enabled» = d .«irq_enabled»;
+  «irq_scanline» = d .«irq_scanline»;
+}
+
+-- this clock is the third of an unbroken row of idle clocks: it is idle, and two were idle before it
+abbrev pub third : ClockRecord → Bool
+third r = not (r .reading) && eqb (r .«idle_count» + 1) 3
+
+unfoldable pub tick : ClockRecord → ClockRecord
+tick r = record {
+  reading = false;
+  «idle_count» = pick (r .reading) 0 ((r .«idle_count» + 1) % 3);
+  «in_frame» = not (third r) && r .«in_frame»;
+  «prev_some» = not (third r) && r .«prev_some»;
+  «prev_addr» = r .«prev_addr»;
+}

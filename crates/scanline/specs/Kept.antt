@@ -1,0 +1,30 @@
+-- Every call keeps the detector and the tile count within their ranges; a fetch does where refusal 7 is not given.
+-- Proved in proofs/RangeLaws.antt, and pinned by the contract of `promises`.
+use Prim.Native.Nat.{ℕ, _<_, _≤_}
+use mathlib.Core.Path.{_≡_}
+use mathlib.Core.Bool.{true, false}
+use Rattle.scanline.specs.declared.Detector.{Detector}
+use Rattle.scanline.specs.Fetches.{countedAt}
+use Rattle.scanline.specs.Tiles.{tilesOk, raisedBy, leftAfter}
+use Rattle.scanline.specs.Steps.{loaded, matchesAfter, seenAt, clocked, broken, vectorRead, statusRead, targeted, enabledBy}
+use Rattle.scanline.specs.Ranges.{rangesOk, counterRefused}
+
+-- a step that keeps the ranges
+abbrev pub Keeps : (Detector → Detector) → Type 0
+Keeps f = (d : Detector) → rangesOk d ≡ true → rangesOk (f d) ≡ true
+
+pub record RangesKept : Type 0 where
+  pub at-load : rangesOk loaded ≡ true
+  pub clock : Keeps clocked
+  pub darkened : Keeps broken
+  pub vector-read : Keeps vectorRead
+  pub status-read : Keeps statusRead
+  pub target : (v : ℕ) → Keeps (λ d. targeted d v)
+  pub enabled : (v : ℕ) → Keeps (λ d. enabledBy d v)
+  pub seen : (d : Detector) (t a : ℕ) → countedAt a ≡ true → counterRefused d t a ≡ false → rangesOk d ≡ true → rangesOk (seenAt d a) ≡ true
+  -- the tile count between the fetch's parts, and after it
+  pub raised : (d : Detector) (t a : ℕ) → countedAt a ≡ true → counterRefused d t a ≡ false → tilesOk t ≡ true → tilesOk (raisedBy t a) ≡ true
+  pub tiles : (d : Detector) (t a : ℕ) → countedAt a ≡ true → counterRefused d t a ≡ false → tilesOk t ≡ true → tilesOk (leftAfter (matchesAfter d a) (raisedBy t a)) ≡ true
+  -- within the ranges the code's sums fit
+  pub idle-fits : (d : Detector) → rangesOk d ≡ true → d .«idle_count» ≤ 2
+  pub line-fits : (d : Detector) → rangesOk d ≡ true → d .scanline < 65535

@@ -1,0 +1,6 @@
+pub mod Fetches
+pub mod Tiles
+pub mod Clock
+pub mod Steps
+pub mod Ranges
+pub mod Kept

@@ -1,0 +1,136 @@
+-- The detector after each call that it can tell from another, and what it answers.
+-- 01, "Fetches, runs, breaks"; the sentence stands above each definition.
+use Prim.Native.Nat.{ℕ, _+_, _/_, _%_, min}
+use mathlib.Core.Bool.{Bool, true, false, _&&_, _||_}
+use lib.Dec.{leb, eqb}
+use Rattle.memory.specs.Words.{pick}
+use Rattle.memory.specs.declared.PpuAddr.{PpuAddr}
+use Rattle.scanline.specs.declared.Detector.{Detector}
+use Rattle.scanline.specs.Clock.{recordOf, withRecord, tick}
+
+-- 01, rule 10: load gives "all else 0, off, none"
+abbrev pub loaded : Detector
+loaded = record {
+  «prev_some» = false;
+  «prev_addr» = record { 0 = 0 };
+  «match_count» = 0;
+  reading = false;
+  «idle_count» = 0;
+  «in_frame» = false;
+  scanline = 0;
+  pending = false;
+  «irq_enabled» = false;
+  «irq_scanline» = 0;
+}
+
+-- A fetch at $2000-$3EFF ------------------------------------------------------------------------------------------------------------
+
+-- it is at $2000-$2FFF, and equals the fetch before it, with no break between
+unfoldable pub again : Detector → ℕ → Bool
+again d a = leb a 0x2FFF && (d .«prev_some» && eqb a (d .«prev_addr» .0))
+
+-- how many equal fetches stand before it in its run; the Rust holds the count at 255
+unfoldable pub matchesAfter : Detector → ℕ → ℕ
+matchesAfter d a = pick (again d a) (min (d .«match_count» + 1) 255) 0
+
+-- "A line is a fetch at $2000-$2FFF equal to the two before it, no break among the three, where the fetch before those differs, is
+-- missing, or lies behind a break."
+unfoldable pub isLine : Detector → ℕ → Bool
+isLine d a = eqb (matchesAfter d a) 2
+
+-- "lines count from 0 after load and each break"
+abbrev pub lineNumber : Detector → ℕ
+lineNumber d = pick (d .«in_frame») (d .scanline + 1) 0
+
+-- "a line numbered 1 or more equalled the value last written to $5203"
+unfoldable pub meets : Detector → ℕ → Bool
+meets d a = isLine d a && (d .«in_frame» && eqb (d .scanline + 1) (d .«irq_scanline»))
+
+-- the detector after a fetch at a: its match count, whether in frame, the line counter and the flag are given
+abbrev pub withRun : Detector → ℕ → ℕ → Bool → ℕ → Bool → Detector
+withRun d a matches framed line flag = record {
+  «prev_some» = true;
+  «prev_addr» = record { 0 = a };
+  «match_count» = matches;
+  reading = true;
+  «idle_count» = d .«idle_count»;
+  «in_frame» = framed;
+  scanline = line;
+  pending = flag;
+  «irq_enabled» = d .«irq_enabled»;
+  «irq_scanline» = d .«irq_scanline»;
+}
+
+-- "run and line", "In frame: some line since load and the last break"
+unfoldable pub seenAt : Detector → ℕ → Detector
+seenAt d a = withRun d a (matchesAfter d a) (isLine d a || d .«in_frame») (pick (isLine d a) (lineNumber d) (d .scanline)) (meets d a || d .pending)
+
+-- The other calls --------------------------------------------------------------------------------------------------------------------
+
+-- one clock
+abbrev pub clocked : Detector → Detector
+clocked d = withRecord d (tick (recordOf d))
+
+-- the detector, its frame and the previous fetch changed, and its flag
+abbrev pub withFrame : Detector → Bool → Bool → Bool → Detector
+withFrame d some framed flag = record {
+  «prev_some» = some;
+  «prev_addr» = d .«prev_addr»;
+  «match_count» = d .«match_count»;
+  reading = d .reading;
+  «idle_count» = d .«idle_count»;
+  «in_frame» = framed;
+  scanline = d .scanline;
+  pending = flag;
+  «irq_enabled» = d .«irq_enabled»;
+  «irq_scanline» = d .«irq_scanline»;
+}
+
+-- "A break is a PPU register write to $2001 with bits 3 and 4 clear": no fetch before it, and out of frame. "The flag" stands.
+abbrev pub broken : Detector → Detector
+broken d = withFrame d false false (d .pending)
+
+-- "a CPU read of $FFFA or $FFFB" is a break, and clears the flag
+abbrev pub vectorRead : Detector → Detector
+vectorRead d = withFrame d false false false
+
+-- a CPU read of $5204 clears the flag
+abbrev pub statusRead : Detector → Detector
+statusRead d = withFrame d (d .«prev_some») (d .«in_frame») false
+
+-- the two registers changed
+abbrev pub withTarget : Detector → Bool → ℕ → Detector
+withTarget d on n = record {
+  «prev_some» = d .«prev_some»;
+  «prev_addr» = d .«prev_addr»;
+  «match_count» = d .«match_count»;
+  reading = d .reading;
+  «idle_count» = d .«idle_count»;
+  «in_frame» = d .«in_frame»;
+  scanline = d .scanline;
+  pending = d .pending;
+  «irq_enabled» = on;
+  «irq_scanline» = n;
+}
+
+-- "the value last written to $5203"
+abbrev pub targeted : Detector → ℕ → Detector
+targeted d v = withTarget d (d .«irq_enabled») v
+
+-- bit 7 of a value
+abbrev pub bit7 : ℕ → Bool
+bit7 v = eqb (v / 128 % 2) 1
+
+-- "the last write to $5204 had bit 7 set"; an easy error is "clearing the flag on a $5204 disable"
+abbrev pub enabledBy : Detector → ℕ → Detector
+enabledBy d v = withTarget d (bit7 v) (d .«irq_scanline»)
+
+-- Answers ----------------------------------------------------------------------------------------------------------------------------
+
+-- what $5204 reads: 128 for the flag and 64 for in frame
+abbrev pub statusOf : Detector → ℕ
+statusOf d = pick (d .pending) 128 0 + pick (d .«in_frame») 64 0
+
+-- "The interrupt is up exactly when the flag is set and the last write to $5204 had bit 7 set."
+abbrev pub interruptUp : Detector → Bool
+interruptUp d = d .pending && d .«irq_enabled»

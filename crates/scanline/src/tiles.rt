@@ -1,0 +1,89 @@
+// The tile count: name fetches so far in a line, and the four ways in which the board looks at it. Beside it, which fetches count.
+// 01, rules 5, 6 and 8, and "Fetches, runs, breaks"; in the Rust, `tile_number`. Nothing outside this file looks at the count's digits.
+ghost use mathlib.Core.Path.{_≡_};
+ghost use mathlib.Core.Bool.{true};
+ghost use Rattle.scanline.specs.Fetches.{countedAt, attributeAt, nameAt};
+ghost use Rattle.scanline.specs.Tiles.{spriteFetch, columnOf, isPrefetched, isFirst, tilesOk, tileRefused, raisedBy, leftAfter};
+
+// $2000-$3EFF: "Only fetches at $2000-$3EFF count here."
+pub fn counted(addr: u16) -> bool
+    ensures { λ r. ⌜ r ≡ countedAt addr ⌝ }
+{
+    (addr >= 0x2000) & (addr <= 0x3EFF)
+}
+
+pub fn attribute_address(addr: u16) -> bool
+    ensures { λ r. ⌜ r ≡ attributeAt addr ⌝ }
+{
+    addr % 1024 >= 0x3C0
+}
+
+pub fn name_fetch(addr: u16) -> bool
+    ensures { λ r. ⌜ r ≡ nameAt addr ⌝ }
+{
+    (addr >= 0x2000) & ((addr <= 0x2FFF) & !attribute_address(addr))
+}
+
+// Name fetches 32-39 of a line are those that the PPU makes while it fetches sprite patterns.
+pub fn sprite_fetch(tiles: u32) -> bool
+    ensures { λ r. ⌜ r ≡ spriteFetch tiles ⌝ }
+{
+    (tiles >= 32) & (tiles <= 39)
+}
+
+// The two tiles fetched ahead at the end of the line before are columns 0 and 1.
+pub fn column(tiles: u32) -> u32
+    requires { ⌜ tilesOk tiles ≡ true ⌝ }
+    ensures { λ r. ⌜ r ≡ columnOf tiles ⌝ }
+{
+    (tiles + 2) % 42
+}
+
+// The tiles from 40 on belong to the line after.
+pub fn prefetched(tiles: u32) -> bool
+    ensures { λ r. ⌜ r ≡ isPrefetched tiles ⌝ }
+{
+    tiles >= 40
+}
+
+pub fn first_tiles(tiles: u32) -> bool
+    ensures { λ r. ⌜ r ≡ isFirst tiles ⌝ }
+{
+    tiles < 42
+}
+
+// The range of the state's tile count.
+pub fn tiles_ok(tiles: u32) -> bool
+    ensures { λ r. ⌜ r ≡ tilesOk tiles ⌝ }
+{
+    tiles <= 4294967293
+}
+
+// The tile count would pass its limit, even where the run then zeroes it.
+pub fn tile_refused(tiles: u32, addr: u16) -> bool
+    ensures { λ r. ⌜ r ≡ tileRefused tiles addr ⌝ }
+{
+    name_fetch(addr) & (tiles > 4294967292)
+}
+
+// As the tile cache finds the count: one more for a name fetch.
+pub fn tiles_raised(tiles: u32, addr: u16) -> u32
+    requires { ⌜ tilesOk tiles ≡ true ⌝ }
+    ensures { λ r. ⌜ r ≡ raisedBy tiles addr ⌝ }
+{
+    if name_fetch(addr) {
+        return tiles + 1;
+    }
+    tiles
+}
+
+// As the split finds the count that was raised: the third of a run, and each equal after it, starts it anew. `matches` is the match
+// count that the fetch left.
+pub fn tiles_after(matches: u8, raised: u32) -> u32
+    ensures { λ r. ⌜ r ≡ leftAfter matches raised ⌝ }
+{
+    if matches > 1 {
+        return 0;
+    }
+    raised
+}

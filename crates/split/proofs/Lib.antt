@@ -1,0 +1,3 @@
+pub mod ControlLaws
+pub mod RegionLaws
+pub mod PlaceLaws

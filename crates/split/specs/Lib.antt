@@ -1,0 +1,6 @@
+pub mod Bits
+pub mod Control
+pub mod Region
+pub mod Places
+pub mod Promise
+pub mod Examples

@@ -1,0 +1,25 @@
+-- What is promised of the split, over every state of it: pinned by the contract of `promises`.
+use Prim.Native.Nat.{ℕ, _%_, _<_, _≤_, _^_}
+use mathlib.Core.Bool.{Bool, true, false}
+use mathlib.Core.Path.{_≡_}
+use Rattle.split.specs.declared.VSplit.{VSplit}
+use Rattle.split.specs.Control.{afterLoad, withControl, withScroll, withBank, splitRanges, splitRefused}
+use Rattle.split.specs.Region.{scrollOf, afterName}
+use Rattle.split.specs.Places.{attributeAddress, attributeShift, patternOffset}
+
+pub record Split : Type 0 where
+  pub scroll-small : (line : ℕ) (prefetched : Bool) (y : ℕ) → scrollOf line prefetched y < 240
+  -- the ranges hold after load, and every change keeps them, so refusal 8 is never given: a name fetch at any column keeps the address at
+  -- 959 or less
+  pub load-in-ranges : splitRanges afterLoad ≡ true
+  pub control-keeps-ranges : (v : VSplit) (n : ℕ) → splitRanges v ≡ true → splitRanges (withControl v n) ≡ true
+  pub scroll-keeps-ranges : (v : VSplit) (n : ℕ) → splitRanges v ≡ true → splitRanges (withScroll v n) ≡ true
+  pub bank-keeps-ranges : (v : VSplit) (n : ℕ) → splitRanges v ≡ true → splitRanges (withBank v n) ≡ true
+  pub name-keeps-ranges : (v : VSplit) (column : ℕ) (first : Bool) (scroll : ℕ) → scroll < 240 → splitRanges v ≡ true → splitRanges (afterName v column first scroll) ≡ true
+  pub never-refused : (v : VSplit) → splitRanges v ≡ true → splitRefused v ≡ false
+  -- the places lie in a buffer of 1,024 bytes and in one of a mebibyte
+  pub attribute-inside : (t : ℕ) → attributeAddress t < 1024
+  -- one of 0, 2, 4 and 6
+  pub shift-small : (t : ℕ) → attributeShift t ≤ 6
+  pub shift-even : (t : ℕ) → attributeShift t % 2 ≡ 0
+  pub pattern-inside : (bank addr scroll : ℕ) → bank < 256 → patternOffset bank addr scroll < 2 ^ 20
