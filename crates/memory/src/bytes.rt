@@ -12,7 +12,7 @@ use crate::Src;
 use crate::words;
 
 // The byte of a buffer, 0 past its end.
-fn byte(buffer: &[u8], offset: usize) -> u8
+pub fn byte(buffer: &[u8], offset: usize) -> u8
     ensures { λ r. ⌜ r ≡ getD (now (buffer .entry)) offset 0 ⌝ }
 {
     if offset < buffer.len() {
@@ -23,7 +23,7 @@ fn byte(buffer: &[u8], offset: usize) -> u8
 }
 
 // The byte of a buffer stored, nothing past its end.
-fn put(buffer: &mut [u8], offset: usize, val: u8)
+pub fn put(buffer: &mut [u8], offset: usize, val: u8)
     ensures { λ _. ⌜ now (buffer .exit) ≡ set (now (buffer .entry)) offset val ⌝ }
 {
     if offset < buffer.len() {

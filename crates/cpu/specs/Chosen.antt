@@ -1,0 +1,27 @@
+-- The choice of a CHR set. 01, rule 5: "Choosing in 8x8 first makes the last CHR write a sprite one."
+use Prim.Native.Nat.{ℕ}
+use mathlib.Core.Bool.{Bool, true, false, _&&_}
+use lib.Dec.{eqb}
+use Rattle.memory.specs.Words.{pick}
+use Rattle.scanline.specs.Tiles.{spriteFetch}
+use Rattle.banks.specs.Chr.{background}
+use Rattle.state.specs.declared.PpuStatus.{PpuStatus}
+use Rattle.state.specs.With.{withBgSet, withBgWritten}
+use Rattle.cpu.specs.Groups.{within}
+
+-- The last CHR write, as a choice finds it.
+abbrev pub lastToBackground : PpuStatus → Bool
+lastToBackground p = p .sprite8x16 && p .«bg_written»
+
+-- The set that is then wanted.
+unfoldable pub chosen : PpuStatus → Bool → PpuStatus
+chosen p framed =
+    withBgSet (withBgWritten p (lastToBackground p)) (background (p .sprite8x16) (spriteFetch (p .«tile_number»)) framed (lastToBackground p))
+
+-- A CPU write: to the sprites' registers $5120-$5127, the background's $5128-$512B, or to $5101.
+unfoldable pub ppuAfter : PpuStatus → Bool → ℕ → PpuStatus
+ppuAfter p framed a =
+    pick (eqb a 0x5101) (chosen p framed)
+    (pick (within 0x5120 0x5127 a) (chosen (withBgWritten p false) framed)
+    (pick (within 0x5128 0x512B a) (chosen (withBgWritten p true) framed)
+    p))

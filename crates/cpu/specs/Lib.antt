@@ -1,0 +1,4 @@
+pub mod Groups
+pub mod Chosen
+pub mod Writes
+pub mod Reads

@@ -1,0 +1,59 @@
+-- A CPU read or peek. 01, "The board we take": "A CPU read asks the registers first, then the page".
+use Prim.Native.Nat.{ℕ, _-_, _*_, _/_, _%_}
+use mathlib.Core.Bool.{Bool, _||_}
+use mathlib.Core.List.{List}
+use lib.Dec.{eqb}
+use lib.ListN.{getD}
+use Rattle.memory.specs.declared.Page.{Page}
+use Rattle.memory.specs.declared.Src.{Src}
+use Rattle.memory.specs.declared.Src.the-variants.{PrgRom, PrgRam, Chr, CiRam, ExRam}
+use Rattle.memory.specs.declared.Src.the-variants as src
+use Rattle.memory.specs.Bytes.{Mem, pageByte}
+use Rattle.memory.specs.Words.{pick}
+use Rattle.answers.specs.declared.Answer.{Answer}
+use Rattle.answers.specs.declared.Answer.the-variants.{Register, Page as FromPage, Blank}
+use Rattle.registers.specs.declared.Regs.{Regs}
+use Rattle.scanline.specs.declared.Detector.{Detector}
+use Rattle.scanline.specs.Steps.{statusOf, statusRead, vectorRead}
+use Rattle.split.specs.declared.VSplit.{VSplit}
+use Rattle.cpu.specs.Groups.{within}
+
+-- A blank page answers blank, any other its byte.
+abbrev pub shownAs : Src → ℕ → Answer
+shownAs src.Blank v = Blank
+shownAs PrgRom v = FromPage v
+shownAs PrgRam v = FromPage v
+shownAs Chr v = FromPage v
+shownAs CiRam v = FromPage v
+shownAs ExRam v = FromPage v
+
+unfoldable pub pageAnswer : Mem → Page → ℕ → Answer
+pageAnswer m p a = shownAs (p .src) (pageByte m p a)
+
+-- The registers that can be read, each with its address; elsewhere the page. Rule 9: "$5130 reads 0 always."
+unfoldable pub registerRead : Regs → VSplit → Detector → List ℕ → List ℕ → ℕ → Answer → Answer
+registerRead g v d prg chr a page =
+    pick (within 0x5113 0x5117 a) (Register (getD prg (a - 0x5113) 0))
+    (pick (within 0x5120 0x512B a) (Register (getD chr (a - 0x5120) 0))
+    (pick (eqb a 0x5100) (Register (g .«prg_mode»))
+    (pick (eqb a 0x5101) (Register (g .«chr_mode»))
+    (pick (eqb a 0x5104) (Register (g .«exram_mode»))
+    (pick (eqb a 0x5105) (Register (g .nametables))
+    (pick (eqb a 0x5106) (Register (g .«fill_tile»))
+    (pick (eqb a 0x5107) (Register (g .«fill_attr»))
+    (pick (eqb a 0x5130) (Register 0)
+    (pick (eqb a 0x5200) (Register (v .mode))
+    (pick (eqb a 0x5201) (Register (v .scroll))
+    (pick (eqb a 0x5202) (Register (v .bank))
+    (pick (eqb a 0x5203) (Register (d .«irq_scanline»))
+    (pick (eqb a 0x5204) (Register (statusOf d))
+    (pick (eqb a 0x5205) (Register (g .multiplicand * g .multiplier % 256))
+    (pick (eqb a 0x5206) (Register (g .multiplicand * g .multiplier / 256))
+    page)))))))))))))))
+
+-- Rule 9: "The $5204 peek clears nothing": a read does. "a CPU read of $FFFA or $FFFB" is a break.
+unfoldable pub irqRead : Detector → ℕ → Detector
+irqRead d a =
+    pick (eqb a 0x5204) (statusRead d)
+    (pick (eqb a 0xFFFA || eqb a 0xFFFB) (vectorRead d)
+    d)

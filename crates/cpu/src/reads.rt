@@ -1,0 +1,95 @@
+// A CPU read or peek: a register, or else the page.
+ghost use mathlib.Core.Path.{_≡_};
+ghost use Prim.Native.Nat.{_*_};
+ghost use Rattle.memory.specs.Bytes.{memOf};
+ghost use Rattle.memory.specs.Words.{pageOf};
+ghost use Rattle.cpu.specs.Reads.{shownAs, pageAnswer, registerRead, irqRead};
+use answers::Answer;
+use crate::groups;
+use memory::PageWord;
+use memory::Src;
+use registers::Regs;
+use scanline::Detector;
+use split::VSplit;
+
+// A byte of a source, as it is answered.
+fn shown_as(src: Src, val: u8) -> Answer
+    ensures { λ r. ⌜ r ≡ shownAs src val ⌝ }
+{
+    match src {
+        Src::Blank => Answer::Blank,
+        Src::PrgRom => Answer::Page(val),
+        Src::PrgRam => Answer::Page(val),
+        Src::Chr => Answer::Page(val),
+        Src::CiRam => Answer::Page(val),
+        Src::ExRam => Answer::Page(val),
+    }
+}
+
+// What a page word answers at an address.
+pub fn page_answer(prg: &[u8], chr: &[u8], ram: &[u8], ciram: &[u8], exram: &[u8], word: PageWord, addr: u16) -> Answer
+    ensures { λ r. ⌜ r ≡ pageAnswer (memOf (now (prg .entry)) (now (chr .entry)) (now (ram .entry)) (now (ciram .entry)) (now (exram .entry))) (pageOf word) addr ⌝ }
+{
+    let place = memory::words::place_of(word, addr);
+    let val = memory::bytes::peek(prg, chr, ram, ciram, exram, place);
+    let src = place.src;
+    shown_as(src, val)
+}
+
+// The multiplier's result: $5205 has the low byte, $5206 the high one.
+fn product(a: u8, b: u8) -> u16
+    ensures { λ r. ⌜ r ≡ a * b ⌝ }
+{
+    a as u16 * b as u16
+}
+
+// A register's value, or else what the page answers.
+pub fn register_or(
+    regs: Regs,
+    vsplit: VSplit,
+    irq: Detector,
+    prg_banks: [u8; 5],
+    chr_banks: [u8; 16],
+    addr: u16,
+    page: Answer,
+) -> Answer
+    ensures { λ r. ⌜ r ≡ registerRead regs vsplit irq «prg_banks» «chr_banks» addr page ⌝ }
+{
+    if groups::is_within(0x5113, 0x5117, addr) {
+        let at = (addr - 0x5113) as usize;
+        return Answer::Register(prg_banks[at]);
+    }
+    if groups::is_within(0x5120, 0x512B, addr) {
+        let at = (addr - 0x5120) as usize;
+        return Answer::Register(chr_banks[at]);
+    }
+    match addr {
+        0x5100 => Answer::Register(regs.prg_mode),
+        0x5101 => Answer::Register(regs.chr_mode),
+        0x5104 => Answer::Register(regs.exram_mode),
+        0x5105 => Answer::Register(regs.nametables),
+        0x5106 => Answer::Register(regs.fill_tile),
+        0x5107 => Answer::Register(regs.fill_attr),
+        0x5130 => Answer::Register(0),
+        0x5200 => Answer::Register(vsplit.mode),
+        0x5201 => Answer::Register(vsplit.scroll),
+        0x5202 => Answer::Register(vsplit.bank),
+        0x5203 => Answer::Register(irq.irq_scanline),
+        0x5204 => Answer::Register(scanline::status(irq)),
+        0x5205 => Answer::Register((product(regs.multiplicand, regs.multiplier) % 256) as u8),
+        0x5206 => Answer::Register((product(regs.multiplicand, regs.multiplier) / 256) as u8),
+        _ => page,
+    }
+}
+
+// What a read, and no peek, leaves in the detector.
+pub fn irq_read(irq: Detector, addr: u16) -> Detector
+    ensures { λ r. ⌜ r ≡ irqRead irq addr ⌝ }
+{
+    match addr {
+        0x5204 => scanline::status_read(irq),
+        0xFFFA => scanline::vector_read(irq),
+        0xFFFB => scanline::vector_read(irq),
+        _ => irq,
+    }
+}
