@@ -9,14 +9,16 @@ use Rattle.memory.specs.declared.Src.{Src}
 use Rattle.memory.specs.declared.Src.the-variants.{PrgRom, PrgRam, Chr, CiRam, ExRam}
 use Rattle.memory.specs.declared.Src.the-variants as src
 use Rattle.memory.specs.Bytes.{Mem, pageByte}
-use Rattle.memory.specs.Words.{pick}
+use Rattle.memory.specs.Words.{pick, pageOf}
 use Rattle.answers.specs.declared.Answer.{Answer}
 use Rattle.answers.specs.declared.Answer.the-variants.{Register, Page as FromPage, Blank}
 use Rattle.registers.specs.declared.Regs.{Regs}
 use Rattle.scanline.specs.declared.Detector.{Detector}
 use Rattle.scanline.specs.Steps.{statusOf, statusRead, vectorRead}
 use Rattle.split.specs.declared.VSplit.{VSplit}
+use Rattle.state.specs.declared.State.{State}
 use Rattle.cpu.specs.Groups.{within}
+use Rattle.cpu.specs.Writes.{prgWordAt}
 
 -- A blank page answers blank, any other its byte.
 abbrev pub shownAs : Src → ℕ → Answer
@@ -57,3 +59,12 @@ irqRead d a =
     pick (eqb a 0x5204) (statusRead d)
     (pick (eqb a 0xFFFA || eqb a 0xFFFB) (vectorRead d)
     d)
+
+-- What a CPU read or peek answers.
+unfoldable pub cpuAnswer : State → Mem → ℕ → Answer
+cpuAnswer s m a =
+    registerRead (s .regs) (s .vsplit) (s .irq) (s .«prg_banks») (s .«chr_banks») a (pageAnswer m (pageOf (prgWordAt (s .«prg_pages») a)) a)
+
+-- 01, refusal 6: "CPU read or peek of $5010, $5015"
+abbrev pub audioRead : ℕ → Bool
+audioRead a = eqb a 0x5010 || eqb a 0x5015

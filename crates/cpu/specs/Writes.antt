@@ -78,3 +78,7 @@ cpuStored s m a v =
     (pageOf (prgWordAt (registerWritten s a v .«prg_pages») a))
     a
     v
+
+-- 01, refusal 6: "CPU write of $5000, $5002-$5004, $5006, $5007, $5010, $5011, $5015"
+abbrev pub audioWrite : ℕ → Bool
+audioWrite a = eqb a 0x5000 || (within 0x5002 0x5004 a || (within 0x5006 0x5007 a || (within 0x5010 0x5011 a || eqb a 0x5015)))

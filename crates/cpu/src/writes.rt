@@ -5,7 +5,7 @@ ghost use mathlib.Core.List.{List};
 ghost use Prim.Native.Nat.{ℕ, _%_};
 ghost use Rattle.memory.specs.Bytes.{memOf};
 ghost use Rattle.state.specs.Lengths.{lengthsOk};
-ghost use Rattle.cpu.specs.Writes.{mapsPrg, mapsChr, prgPagesAfter, chrPagesAfter, registerWritten, latched, cpuStored, prgWordAt};
+ghost use Rattle.cpu.specs.Writes.{mapsPrg, mapsChr, prgPagesAfter, chrPagesAfter, registerWritten, latched, cpuStored, prgWordAt, audioWrite};
 use crate::chosen;
 use crate::groups;
 use memory::PageWord;
@@ -134,4 +134,14 @@ pub fn cpu_write(
     let word = prg_word_at(pages, addr);
     memory::bytes::store(chr, ram, ciram, exram, word, addr, val);
     t
+}
+
+// Refusal 6, of a write.
+pub fn audio_write(addr: u16) -> bool
+    ensures { λ r. ⌜ r ≡ audioWrite addr ⌝ }
+{
+    (addr == 0x5000)
+        | (groups::is_within(0x5002, 0x5004, addr)
+            | (groups::is_within(0x5006, 0x5007, addr)
+                | (groups::is_within(0x5010, 0x5011, addr) | (addr == 0x5015))))
 }

@@ -28,7 +28,7 @@ fn side_at(v: VSplit, column: u16) -> bool
     v.in_region
 }
 
-// Columns above 32 are the fetches that the PPU makes while it fetches sprite patterns: no columns of the screen.
+// Columns above 32 are no columns of the screen: among them are the fetches made beside those of sprite patterns.
 fn region_at(v: VSplit, column: u16, first: bool) -> bool
     ensures { λ r. ⌜ r ≡ regionAt v column first ⌝ }
 {

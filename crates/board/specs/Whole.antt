@@ -1,0 +1,32 @@
+-- Calls on the state alone: they ask only for its ranges (refusal 5).
+use Prim.Native.Nat.{ℕ}
+use mathlib.Core.Bool.{Bool, not}
+use Rattle.memory.specs.Words.{pick}
+use Rattle.answers.specs.declared.Answer.the-variants.{Nothing}
+use Rattle.answers.specs.declared.Refusal.the-variants.{State as StateBroken}
+use Rattle.registers.specs.declared.Regs.{Regs}
+use Rattle.scanline.specs.Steps.{interruptUp}
+use Rattle.state.specs.declared.State.{State}
+use Rattle.state.specs.Ranges.{inRange}
+use Rattle.state.specs.With.{withRegs}
+use Rattle.board.specs.declared.Interrupt.{Interrupt}
+use Rattle.board.specs.declared.Interrupt.the-variants.{Up, Down, Refused as NotTold}
+use Rattle.board.specs.declared.Outcome.{Outcome}
+use Rattle.board.specs.declared.Told.{Told}
+use Rattle.board.specs.declared.Told.the-variants.{Is, Refused}
+use Rattle.board.specs.Outcomes.{outcome, refused}
+
+-- 01, rule 10: "Reset sets modes 8k and 1k and maps nothing."
+abbrev pub resetRegs : Regs → Regs
+resetRegs g =
+    record { «prg_mode» = 3; «chr_mode» = 3; «protect_a» = g .«protect_a»; «protect_b» = g .«protect_b»; «exram_mode» = g .«exram_mode»; «exram_chosen» = g .«exram_chosen»; nametables = g .nametables; «fill_tile» = g .«fill_tile»; «fill_attr» = g .«fill_attr»; «chr_hi» = g .«chr_hi»; multiplicand = g .multiplicand; multiplier = g .multiplier }
+
+unfoldable pub resetCall : State → Outcome
+resetCall s = pick (not (inRange s)) (refused s StateBroken) (outcome Nothing (withRegs s (resetRegs (s .regs))))
+
+unfoldable pub mirroringCall : State → Told
+mirroringCall s = pick (not (inRange s)) (Refused StateBroken) (Is (s .screen .mirroring))
+
+-- Demand 3: "The interrupt is up exactly when the flag is set and the last write to $5204 had bit 7 set."
+unfoldable pub interruptCall : State → Interrupt
+interruptCall s = pick (not (inRange s)) (NotTold StateBroken) (pick (interruptUp (s .irq)) Up Down)

@@ -1,0 +1,50 @@
+// Calls on the state alone: reset, mirroring, and whether the interrupt is up.
+ghost use mathlib.Core.Path.{_≡_};
+ghost use Rattle.board.specs.Whole.{resetCall, mirroringCall, interruptCall};
+use answers::Answer;
+use answers::Refusal;
+use crate::Interrupt;
+use crate::Outcome;
+use crate::Told;
+use crate::refuse;
+use state::State;
+
+// Modes 8k and 1k; nothing is mapped.
+pub fn reset(s: State) -> Outcome
+    ensures { λ r. ⌜ r ≡ resetCall s ⌝ }
+{
+    let ok = state::ranges::in_range(s);
+    if !ok {
+        return refuse(s, Refusal::State);
+    }
+    let mut t = s;
+    t.regs.prg_mode = 3;
+    t.regs.chr_mode = 3;
+    Outcome {
+        answer: Answer::Nothing,
+        state: t,
+    }
+}
+
+pub fn mirroring(s: State) -> Told
+    ensures { λ r. ⌜ r ≡ mirroringCall s ⌝ }
+{
+    let ok = state::ranges::in_range(s);
+    if !ok {
+        return Told::Refused(Refusal::State);
+    }
+    let screen = s.screen;
+    let mirroring = screen.mirroring;
+    Told::Is(mirroring)
+}
+
+pub fn interrupt_up(s: State) -> Interrupt
+    ensures { λ r. ⌜ r ≡ interruptCall s ⌝ }
+{
+    let ok = state::ranges::in_range(s);
+    if !ok {
+        return Interrupt::Refused(Refusal::State);
+    }
+    let up = scanline::interrupt_up(s.irq);
+    if up { Interrupt::Up } else { Interrupt::Down }
+}
