@@ -1,14 +1,15 @@
 -- Calls on the state alone: they ask only for its ranges (refusal 5).
-use Prim.Native.Nat.{ℕ}
+use Prim.Native.Nat.{ℕ, _/_, _%_}
 use mathlib.Core.Bool.{Bool, not}
+use lib.Dec.{eqb}
 use Rattle.memory.specs.Words.{pick}
 use Rattle.answers.specs.declared.Answer.the-variants.{Nothing}
 use Rattle.answers.specs.declared.Refusal.the-variants.{State as StateBroken}
 use Rattle.registers.specs.declared.Regs.{Regs}
-use Rattle.scanline.specs.Steps.{interruptUp}
+use Rattle.scanline.specs.Steps.{interruptUp, clocked, broken}
 use Rattle.state.specs.declared.State.{State}
 use Rattle.state.specs.Ranges.{inRange}
-use Rattle.state.specs.With.{withRegs}
+use Rattle.state.specs.With.{withRegs, withIrq, withPpu, withSprite8x16, withRendering}
 use Rattle.board.specs.declared.Interrupt.{Interrupt}
 use Rattle.board.specs.declared.Interrupt.the-variants.{Up, Down, Refused as NotTold}
 use Rattle.board.specs.declared.Outcome.{Outcome}
@@ -30,3 +31,20 @@ mirroringCall s = pick (not (inRange s)) (Refused StateBroken) (Is (s .screen .m
 -- Demand 3: "The interrupt is up exactly when the flag is set and the last write to $5204 had bit 7 set."
 unfoldable pub interruptCall : State → Interrupt
 interruptCall s = pick (not (inRange s)) (NotTold StateBroken) (pick (interruptUp (s .irq)) Up Down)
+
+-- 01, "Fetches, runs, breaks": a clock is the detector's.
+unfoldable pub clockCall : State → Outcome
+clockCall s = pick (not (inRange s)) (refused s StateBroken) (outcome Nothing (withIrq s (clocked (s .irq))))
+
+-- $2000, bit 5: sprites of 8x16. $2001, bits 3 and 4: rendering; "A break is a PPU register write to $2001 with bits 3 and 4 clear".
+abbrev pub dark : ℕ → Bool
+dark v = eqb (v / 8 % 4) 0
+
+unfoldable pub toldPpu : State → ℕ → ℕ → State
+toldPpu s a v =
+    pick (eqb a 0x2000) (withPpu s (withSprite8x16 (s .ppu) (eqb (v / 32 % 2) 1)))
+    (pick (eqb a 0x2001) (withIrq (withPpu s (withRendering (s .ppu) (not (dark v)))) (pick (dark v) (broken (s .irq)) (s .irq)))
+    s)
+
+unfoldable pub ppuRegisterCall : State → ℕ → ℕ → Outcome
+ppuRegisterCall s a v = pick (not (inRange s)) (refused s StateBroken) (outcome Nothing (toldPpu s a v))

@@ -16,9 +16,11 @@ use Rattle.scanline.specs.Ranges.{rangesOk, lineRefused, counterRefused}
 use Rattle.scanline.specs.Kept.{RangesKept, Keeps}
 
 idle-ok : (d : Detector) → rangesOk d ≡ true → d .«idle_count» ≤ 2
+unfolding rangesOk
 idle-ok d r = leb-true (d .«idle_count») 2 (and-left (leb (d .«idle_count») 2) (leb (d .scanline) 65279) r)
 
 line-ok : (d : Detector) → rangesOk d ≡ true → d .scanline ≤ 65279
+unfolding rangesOk
 line-ok d r = leb-true (d .scanline) 65279 (and-right (leb (d .«idle_count») 2) (leb (d .scanline) 65279) r)
 
 -- the idle count after a clock
@@ -27,7 +29,7 @@ ticked-idle true n = omega arith
 ticked-idle false n = omega arith
 
 clock : Keeps clocked
-unfolding tick
+unfolding rangesOk tick
 clock d r = and-both _ _ (le-leb _ _ (ticked-idle (d .reading) (d .«idle_count»))) (le-leb (d .scanline) 65279 (line-ok d r))
 
 -- a test that is false has each of its causes false
@@ -41,25 +43,31 @@ cause-2 c false y p q = rw p at q
 
 module _ (d : Detector) (t a : ℕ) (counts : countedAt a ≡ true) (taken : counterRefused d t a ≡ false) where
   line-taken : lineRefused d a ≡ false
+  unfolding counterRefused
   line-taken = cause-2 (countedAt a) (tileRefused t a) (lineRefused d a) counts taken
 
   tile-taken : tileRefused t a ≡ false
+  unfolding counterRefused
   tile-taken = cause-1 (countedAt a) (tileRefused t a) (lineRefused d a) counts taken
 
   line-after : d .scanline ≤ 65279 → pick (isLine d a) (lineNumber d) (d .scanline) ≤ 65279
+  unfolding lineRefused
   line-after p = split (isLine d a) (λ l. rw l (ltb-false 65279 (lineNumber d) (rw l at line-taken))) (λ l. rw l p)
 
   seen : rangesOk d ≡ true → rangesOk (seenAt d a) ≡ true
-  unfolding seenAt
+  unfolding rangesOk seenAt
   seen r = and-both _ _ (le-leb (d .«idle_count») 2 (idle-ok d r)) (le-leb _ _ (line-after (line-ok d r)))
 
   raised : tilesOk t ≡ true → tilesOk (raisedBy t a) ≡ true
+  unfolding tilesOk tileRefused nextTile
   raised r = split (nameAt a) (λ n. rw n (le-leb (t + 1) 4294967293 (ltb-false 4294967293 (t + 1) (rw n at tile-taken)))) (λ n. rw n r)
 
   tiles : tilesOk t ≡ true → tilesOk (leftAfter (matchesAfter d a) (raisedBy t a)) ≡ true
+  unfolding tilesOk
   tiles r = split (leb 2 (matchesAfter d a)) (λ m. rw m) (λ m. rw m (raised r))
 
 pub ranges-kept : RangesKept
+unfolding rangesOk
 ranges-kept = record {
   at-load = refl;
   clock = clock;

@@ -3,19 +3,22 @@ use Prim.Native.Nat.{ℕ, _+_, _/_, _%_, _<_, _≤_}
 use mathlib.Core.Path.{_≡_, refl, ap}
 use mathlib.Core.Bool.{Bool, true, false, _&&_, _||_}
 use native.Mathlib.Omega.{arith}
-use borrow.Author.Tests.{ltb-true, eqb-true, lt-ltb, eq-eqb, ne-eqb}
+use borrow.Author.Tests.{ltb-true, lt-ltb, eq-eqb, ne-eqb}
 use lib.Dec.{eqb, ltb}
 use Rattle.memory.specs.Words.{pick}
 use Rattle.memory.proofs.Tests.{same-test, split, and-false}
 use Rattle.scanline.specs.declared.Detector.{Detector}
-use Rattle.scanline.specs.Tiles.{tileRefused}
+use Rattle.scanline.specs.Tiles.{columnOf, nextTile, tileRefused}
 use Rattle.scanline.specs.Fetches.{nameAt}
-use Rattle.scanline.specs.Steps.{matchesAfter, isLine, lineNumber, meets, withRun, seenAt}
+use Rattle.scanline.specs.Steps.{matchesAfter, isLine, lineNumber, meets, withRun, seenAt, bit7}
 use Rattle.scanline.specs.Ranges.{lineRefused}
 
 -- bit 7 of a byte
-pub top-bit : (v : ℕ) → v < 256 → ltb 127 v ≡ eqb (v / 128 % 2) 1
-top-bit v p = same-test (ltb 127 v) (eqb (v / 128 % 2) 1) (λ t. eq-eqb (v / 128 % 2) 1 (omega (arith, ltb-true 127 v t))) (λ t. lt-ltb 127 v (omega (arith, eqb-true (v / 128 % 2) 1 t)))
+pub bit-set : (v : ℕ) → v < 256 → 127 < v → bit7 v ≡ true
+bit-set v p q = eq-eqb (v / 128 % 2) 1 (omega arith)
+
+pub bit-clear : (v : ℕ) → v ≤ 127 → bit7 v ≡ false
+bit-clear v p = ne-eqb (v / 128 % 2) 1 (λ q. omega arith)
 
 -- above n, or above n + 1 with one more
 pub one-more : (n k : ℕ) → ltb n k ≡ ltb (n + 1) (k + 1)
@@ -27,17 +30,25 @@ module _ (d : Detector) (a m : ℕ) (q : m ≡ matchesAfter d a) where
   unfolding seenAt isLine meets
   no-line n = simp (← q, ne-eqb m 2 n)
 
-  pub next-line : m ≡ 2 → d .«in_frame» ≡ true → withRun d a m true (d .scanline + 1) (eqb (d .scanline + 1) (d .«irq_scanline») || d .pending) ≡ seenAt d a
+  -- k is the line's number
+  pub line : (k : ℕ) → m ≡ 2 → k ≡ lineNumber d → withRun d a m true k ((d .«in_frame» && eqb k (d .«irq_scanline»)) || d .pending) ≡ seenAt d a
   unfolding seenAt isLine meets
-  next-line two f = simp (← q, eq-eqb m 2 two, f)
-
-  pub first-line : m ≡ 2 → d .«in_frame» ≡ false → withRun d a m true 0 (d .pending) ≡ seenAt d a
-  unfolding seenAt isLine meets
-  first-line two f = simp (← q, eq-eqb m 2 two, f)
+  line k two n = rw (n, ← q, eq-eqb m 2 two) (split (d .«in_frame») (λ t. rw t) (λ t. rw t))
 
   pub line-over : eqb m 2 && (d .«in_frame» && ltb 65278 (d .scanline)) ≡ lineRefused d a
-  unfolding isLine
+  unfolding lineRefused isLine
   line-over = rw (← q) (ap (λ (b : Bool). eqb m 2 && b) (split (d .«in_frame») (λ t. rw t (one-more 65278 (d .scanline))) (λ t. rw t)))
 
 pub tile-over : (t a : ℕ) (b : Bool) → b ≡ nameAt a → b && ltb 4294967292 t ≡ tileRefused t a
+unfolding tileRefused nextTile
 tile-over t a b q = rw (q, one-more 4294967292 t)
+
+-- the match count that a fetch leaves is what zeroes the tile count
+pub seen-matches : (d : Detector) (a : ℕ) → seenAt d a .«match_count» ≡ matchesAfter d a
+unfolding seenAt
+seen-matches d a = refl
+
+-- a column is one of 42
+pub column-below : (t : ℕ) → columnOf t < 42
+unfolding columnOf
+column-below t = omega arith

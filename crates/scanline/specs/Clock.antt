@@ -3,10 +3,14 @@
 -- since the clock before, or since load."
 use Prim.Native.Nat.{ℕ, _+_, _%_}
 use mathlib.Core.Bool.{Bool, false, _&&_, not}
-use lib.Dec.{eqb}
+use lib.Dec.{leb, eqb}
+use Rattle.answers.specs.declared.Answer.{Answer}
+use Rattle.answers.specs.declared.Answer.the-variants.{Nothing, Refused}
+use Rattle.answers.specs.declared.Refusal.the-variants.{State}
 use Rattle.memory.specs.Words.{pick}
 use Rattle.scanline.specs.declared.Detector.{Detector}
 use Rattle.scanline.specs.declared.record.ClockRecord.{ClockRecord}
+use Rattle.scanline.specs.declared.record.ClockOutcome.{ClockOutcome}
 
 -- 01, "What must change shape": the clock record is "reading, idle count, in-frame and previous address"
 abbrev pub recordOf : Detector → ClockRecord
@@ -39,3 +43,7 @@ tick r = record {
   «prev_some» = not (third r) && r .«prev_some»;
   «prev_addr» = r .«prev_addr»;
 }
+
+-- 01, "What must change shape": the clock over a record, "idle count above 2: 5, unaltered"
+abbrev pub clockOutcome : ClockRecord → ClockOutcome
+clockOutcome r = pick (leb (r .«idle_count») 2) (record { answer = Nothing; «record» = tick r }) (record { answer = Refused State; «record» = r })

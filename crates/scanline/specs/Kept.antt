@@ -1,11 +1,14 @@
--- Every call keeps the detector and the tile count within their ranges; a fetch does where refusal 7 is not given.
--- Proved in proofs/RangeLaws.antt, and pinned by the contract of `promises`.
+-- Every call keeps the detector and the tile count within their ranges; a fetch does where refusal 7 is not given. And the clock over a
+-- record changes its fields as the detector's clock does.
+-- Proved in proofs/RangeLaws.antt and proofs/ClockLaws.antt, and pinned by the contract of `promises`.
 use Prim.Native.Nat.{ℕ, _<_, _≤_}
 use mathlib.Core.Path.{_≡_}
 use mathlib.Core.Bool.{true, false}
 use Rattle.scanline.specs.declared.Detector.{Detector}
+use Rattle.answers.specs.declared.Answer.the-variants.{Nothing}
 use Rattle.scanline.specs.Fetches.{countedAt}
 use Rattle.scanline.specs.Tiles.{tilesOk, raisedBy, leftAfter}
+use Rattle.scanline.specs.Clock.{recordOf, withRecord, clockOutcome}
 use Rattle.scanline.specs.Steps.{loaded, matchesAfter, seenAt, clocked, broken, vectorRead, statusRead, targeted, enabledBy}
 use Rattle.scanline.specs.Ranges.{rangesOk, counterRefused}
 
@@ -28,3 +31,8 @@ pub record RangesKept : Type 0 where
   -- within the ranges the code's sums fit
   pub idle-fits : (d : Detector) → rangesOk d ≡ true → d .«idle_count» ≤ 2
   pub line-fits : (d : Detector) → rangesOk d ≡ true → d .scanline < 65535
+
+-- 01, "What must change shape": the lent clock "changes those fields as the state's clock does", and the state's clock changes no others
+pub record SameClock : Type 0 where
+  pub fields : (d : Detector) → d .«idle_count» ≤ 2 → clockOutcome (recordOf d) ≡ record { answer = Nothing; «record» = recordOf (clocked d) }
+  pub rest : (d : Detector) → clocked d ≡ withRecord d (recordOf (clocked d))

@@ -4,3 +4,4 @@ pub mod Clock
 pub mod Steps
 pub mod Ranges
 pub mod Kept
+pub mod Edges

@@ -8,13 +8,13 @@ use Rattle.scanline.specs.Tiles.{tileRefused}
 use Rattle.scanline.specs.Steps.{isLine, lineNumber}
 
 -- 01, "STATE ranges": "idle count 0-2; .. line counter within 7's limits"
-abbrev pub rangesOk : Detector → Bool
+unfoldable pub rangesOk : Detector → Bool
 rangesOk d = leb (d .«idle_count») 2 && leb (d .scanline) 65279
 
 -- 01, refusal 7: "would need .. a line counter above 65,279"
-abbrev pub lineRefused : Detector → ℕ → Bool
+unfoldable pub lineRefused : Detector → ℕ → Bool
 lineRefused d a = isLine d a && ltb 65279 (lineNumber d)
 
 -- 01, refusal 7: "a fetch at $2000-$3EFF would need, even for a moment, a tile count above 4,294,967,293 or a line counter above 65,279"
-abbrev pub counterRefused : Detector → ℕ → ℕ → Bool
+unfoldable pub counterRefused : Detector → ℕ → ℕ → Bool
 counterRefused d t a = countedAt a && (tileRefused t a || lineRefused d a)

@@ -1,4 +1,5 @@
--- The tile count: how a fetch moves it, what it may be, and the four looks at it.
+-- The tile count: how a fetch moves it, what it may be, and the four looks at it. All that tells one count from another is `unfoldable`, so
+-- that no proof outside this crate leans on the count's own digits.
 use Prim.Native.Nat.{ℕ, _+_, _%_}
 use mathlib.Core.Bool.{Bool, _&&_}
 use lib.Dec.{leb, ltb}
@@ -6,34 +7,34 @@ use Rattle.memory.specs.Words.{pick}
 use Rattle.scanline.specs.Fetches.{nameAt}
 
 -- The four looks. 01, rules 5 and 6: "tile count 32-39".
-abbrev pub spriteFetch : ℕ → Bool
+unfoldable pub spriteFetch : ℕ → Bool
 spriteFetch t = leb 32 t && leb t 39
 
 -- 01, rule 8: "Column = (tile + 2) mod 42."
-abbrev pub columnOf : ℕ → ℕ
+unfoldable pub columnOf : ℕ → ℕ
 columnOf t = (t + 2) % 42
 
 -- 01, rule 8: "+ 1 if tile is 40 or more"
-abbrev pub isPrefetched : ℕ → Bool
+unfoldable pub isPrefetched : ℕ → Bool
 isPrefetched t = leb 40 t
 
 -- 01, rule 8: "with tile count under 42"
-abbrev pub isFirst : ℕ → Bool
+unfoldable pub isFirst : ℕ → Bool
 isFirst t = ltb t 42
 
 -- What it may be. 01, "STATE ranges": "tile count .. within 7's limits".
-abbrev pub tilesOk : ℕ → Bool
+unfoldable pub tilesOk : ℕ → Bool
 tilesOk t = leb t 4294967293
 
 -- 01, "Fetches, runs, breaks": "tile count + 1 for a name fetch to $2FFF"
-abbrev pub nextTile : ℕ → ℕ
+unfoldable pub nextTile : ℕ → ℕ
 nextTile t = t + 1
 
 abbrev pub raisedBy : ℕ → ℕ → ℕ
 raisedBy t a = pick (nameAt a) (nextTile t) t
 
 -- 01, refusal 7: "would need, even for a moment, a tile count above 4,294,967,293"
-abbrev pub tileRefused : ℕ → ℕ → Bool
+unfoldable pub tileRefused : ℕ → ℕ → Bool
 tileRefused t a = nameAt a && ltb 4294967293 (nextTile t)
 
 -- "third and later equals zero the tile count": m equal fetches stood before this one

@@ -4,10 +4,10 @@
 // What the names mean stands in specs/: Steps.antt for the calls, Ranges.antt for what is refused.
 ghost use mathlib.Core.Path.{_≡_};
 ghost use Prim.Native.Nat.{_<_, _≤_};
-ghost use mathlib.Core.Bool.{_&&_};
-ghost use Rattle.scanline.specs.Steps.{loaded, matchesAfter, isLine, seenAt, clocked, broken, vectorRead, statusRead, targeted, enabledBy, statusOf, interruptUp};
+ghost use Rattle.scanline.specs.Steps.{loaded, matchesAfter, lineNumber, seenAt, clocked, broken, vectorRead, statusRead, targeted, enabledBy, statusOf, interruptUp};
 ghost use Rattle.scanline.specs.Ranges.{rangesOk, lineRefused, counterRefused};
-ghost use Rattle.scanline.specs.Kept.{RangesKept};
+ghost use Rattle.scanline.specs.Kept.{RangesKept, SameClock};
+ghost use Rattle.scanline.specs.Edges.{Edges};
 use memory::PpuAddr;
 
 pub mod record;
@@ -63,6 +63,17 @@ fn matched(d: Detector, addr: u16) -> u8
     d.match_count + 1
 }
 
+// The number of a line that comes now.
+fn line_number(d: Detector) -> u16
+    requires { ⌜ d .scanline < 65535 ⌝ }
+    ensures { λ r. ⌜ r ≡ lineNumber d ⌝ }
+{
+    if d.in_frame {
+        return d.scanline + 1;
+    }
+    0
+}
+
 // A fetch at $2000-$3EFF. The match count that it leaves is what `tiles::tiles_after` asks for.
 pub fn seen(d: Detector, addr: u16) -> Detector
     requires { ⌜ d .scanline < 65535 ⌝ }
@@ -79,12 +90,8 @@ pub fn seen(d: Detector, addr: u16) -> Detector
         return n;
     }
     n.in_frame = true;
-    if d.in_frame {
-        n.scanline = d.scanline + 1;
-        n.pending = (n.scanline == d.irq_scanline as u16) | d.pending;
-        return n;
-    }
-    n.scanline = 0;
+    n.scanline = line_number(d);
+    n.pending = (d.in_frame & (n.scanline == d.irq_scanline as u16)) | d.pending;
     n
 }
 
@@ -106,19 +113,17 @@ pub fn counter_refused(d: Detector, tile_count: u32, addr: u16) -> bool
 pub fn darkened(d: Detector) -> Detector
     ensures { λ r. ⌜ r ≡ broken d ⌝ }
 {
-    let mut n = d;
-    n.prev_some = false;
-    n.in_frame = false;
-    n
+    let mut dark = d;
+    dark.prev_some = false;
+    dark.in_frame = false;
+    dark
 }
 
-// The CPU reads $FFFA or $FFFB.
+// The CPU reads $FFFA or $FFFB: a break too, and the flag goes.
 pub fn vector_read(d: Detector) -> Detector
     ensures { λ r. ⌜ r ≡ vectorRead d ⌝ }
 {
-    let mut n = d;
-    n.prev_some = false;
-    n.in_frame = false;
+    let mut n = darkened(d);
     n.pending = false;
     n
 }
@@ -127,9 +132,9 @@ pub fn vector_read(d: Detector) -> Detector
 pub fn status_read(d: Detector) -> Detector
     ensures { λ r. ⌜ r ≡ statusRead d ⌝ }
 {
-    let mut n = d;
-    n.pending = false;
-    n
+    let mut read = d;
+    read.pending = false;
+    read
 }
 
 // The CPU writes $5203.
@@ -146,7 +151,11 @@ pub fn set_enabled(d: Detector, val: u8) -> Detector
     ensures { λ r. ⌜ r ≡ enabledBy d val ⌝ }
 {
     let mut n = d;
-    n.irq_enabled = val > 127;
+    if val > 127 {
+        n.irq_enabled = true;
+        return n;
+    }
+    n.irq_enabled = false;
     n
 }
 
@@ -193,7 +202,7 @@ pub fn clock(d: Detector) -> Detector
     n
 }
 
-// Ties what specs/Kept.antt says to the crate: without its proof this function is not proved.
+// Ties what specs/Kept.antt and specs/Edges.antt say to the crate: without their proofs this function is not proved.
 pub fn promises()
-    ensures { λ _. ⌜ RangesKept ⌝ }
+    ensures { λ _. ⌜ RangesKept × SameClock × Edges ⌝ }
 {}

@@ -1,10 +1,17 @@
--- `promises` holds: the ranges are kept, by `ranges-kept`.
+-- `promises` holds: the ranges are kept, by `ranges-kept`; the two clocks are one, by `same-clock`; the worked cases, by computation.
+use Rattle.scanline.specs.Clock.{tick}
+use Rattle.scanline.specs.Ranges.{rangesOk, lineRefused, counterRefused}
+use Rattle.scanline.specs.Edges.{right}
+use Rattle.scanline.specs.Steps.{again, matchesAfter, isLine, meets, seenAt}
+use Rattle.scanline.specs.Tiles.{spriteFetch, columnOf, isPrefetched, isFirst, tilesOk, nextTile, tileRefused}
+use Rattle.scanline.proofs.ClockLaws.{same-clock}
 use Rattle.scanline.proofs.RangeLaws.{ranges-kept}
 use Rattle.scanline.proofs.promises.Statement.{statement}
 use Rattle.scanline.proofs.promises.Tie as tie
 
 returns : tie.Need-returns
-returns c = ranges-kept
+unfolding rangesOk lineRefused counterRefused spriteFetch columnOf isPrefetched isFirst tilesOk nextTile tileRefused tick again matchesAfter isLine meets seenAt right
+returns c = (ranges-kept, same-clock, tt)
 
 pub promises-spec : {M : Type 1} → statement M
 promises-spec = tie.close (tie.spec returns)

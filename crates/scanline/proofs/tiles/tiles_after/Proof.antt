@@ -5,7 +5,7 @@ use Rattle.scanline.proofs.tiles.tiles_after.Statement.{statement}
 use Rattle.scanline.proofs.tiles.tiles_after.Tie as tie
 
 returns : tie.Need-returns
-returns c = simp (le-leb _ _ (c .if1 .taken))
+returns c = simp (le-leb 2 (c .before .args .matches) (omega (arith, c .if1 .taken)))
 
 returns-2 : tie.Need-returns-2
 returns-2 c = simp (lt-leb 2 (c .before .args .matches) (omega (arith, c .if1 .left)))

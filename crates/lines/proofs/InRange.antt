@@ -1,0 +1,53 @@
+-- Accepted calls keep the ranges: by cases on the call, each by crate `scanline`'s law.
+-- Assumes nothing.
+use Prim.Native.Nat.{ℕ, _/_, _%_}
+use mathlib.Core.Path.{_≡_, refl, ap}
+use mathlib.Core.Bool.{true, false, _&&_, _||_}
+use mathlib.Core.List.{[], _∷_}
+use lib.Dec.{eqb}
+use Rattle.memory.specs.Words.{pick}
+use Rattle.memory.proofs.Tests.{split}
+use Rattle.scanline.specs.declared.Detector.{Detector}
+use Rattle.scanline.specs.Fetches.{countedAt}
+use Rattle.scanline.specs.Tiles.{tilesOk}
+use Rattle.scanline.specs.Ranges.{rangesOk}
+use Rattle.scanline.proofs.RangeLaws.{ranges-kept}
+use Rattle.lines.specs.Events.{Event}
+use Rattle.lines.specs.Events.Event.{clock, fetch, cpuRead, cpuWrite, ppuWrite, other}
+use Rattle.lines.specs.Told.{History}
+use Rattle.lines.specs.Machine.{step, Watched, refused, tilesBy}
+use Rattle.lines.specs.Promise.{Reached, StaysInRange}
+use Rattle.lines.specs.Promise.Played.{at-load, taken}
+
+module _ (w : Watched) where
+  detector : (e : Event) → refused w e ≡ false → rangesOk (w .detector) ≡ true → rangesOk (step (w .detector) e) ≡ true
+  unfolding step refused
+  detector clock p r = ranges-kept .clock (w .detector) r
+  detector (fetch a) p r = split (countedAt a) (λ t. rw t (ranges-kept .seen (w .detector) (w .tiles) a t p r)) (λ t. rw t r)
+  detector (cpuRead a) p r =
+      split (eqb a 0xFFFA || eqb a 0xFFFB)
+      (λ t. rw t (ranges-kept .vector-read (w .detector) r))
+      (λ t. rw t (split (eqb a 0x5204) (λ u. rw u (ranges-kept .status-read (w .detector) r)) (λ u. rw u r)))
+  detector (cpuWrite a v) p r =
+      split (eqb a 0x5203)
+      (λ t. rw t (ranges-kept .target v (w .detector) r))
+      (λ t. rw t (split (eqb a 0x5204) (λ u. rw u (ranges-kept .enabled v (w .detector) r)) (λ u. rw u r)))
+  detector (ppuWrite a v) p r = split (eqb a 0x2001 && eqb (v / 8 % 4) 0) (λ t. rw t (ranges-kept .darkened (w .detector) r)) (λ t. rw t r)
+  detector other p r = r
+
+  tiles : (e : Event) → refused w e ≡ false → tilesOk (w .tiles) ≡ true → tilesOk (tilesBy w e) ≡ true
+  unfolding tilesBy refused
+  tiles clock p r = r
+  tiles (fetch a) p r = split (countedAt a) (λ t. rw t (ranges-kept .tiles (w .detector) (w .tiles) a t p r)) (λ t. rw t r)
+  tiles (cpuRead a) p r = r
+  tiles (cpuWrite a v) p r = r
+  tiles (ppuWrite a v) p r = r
+  tiles other p r = r
+
+kept : {h : History} {w : Watched} → Reached h w → (rangesOk (w .detector) ≡ true) × (tilesOk (w .tiles) ≡ true)
+unfolding tilesOk
+kept at-load = (ranges-kept .at-load, refl)
+kept (taken {s = w} e r t) = rw (t .moved) (detector w e (t .allowed) (kept r .0), tiles w e (t .allowed) (kept r .1))
+
+pub stays-in-range : StaysInRange
+stays-in-range h w r = kept r

@@ -1,0 +1,10 @@
+pub mod Fields
+pub mod Agree
+pub mod Flag
+pub mod Stored
+pub mod Wait
+pub mod SentenceIs
+pub mod InRange
+pub mod Calls
+pub mod Transfer
+pub mod Worked

@@ -1,0 +1,6 @@
+pub mod Events
+pub mod Told
+pub mod Sentence
+pub mod Machine
+pub mod Promise
+pub mod Cases

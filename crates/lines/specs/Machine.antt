@@ -1,0 +1,81 @@
+-- The detector over a history: what each call makes of it, by the definitions of crate `scanline`, and which calls are taken.
+-- Assumes nothing.
+use Prim.Native.Nat.{ℕ, _/_, _%_}
+use mathlib.Core.Path.{_≡_}
+use mathlib.Core.Bool.{Bool, true, false, not, _&&_, _||_}
+use mathlib.Core.List.{List, [], _∷_}
+use lib.Dec.{eqb}
+use Rattle.memory.specs.Words.{pick}
+use Rattle.scanline.specs.declared.Detector.{Detector}
+use Rattle.scanline.specs.Fetches.{countedAt}
+use Rattle.scanline.specs.Tiles.{raisedBy, leftAfter}
+use Rattle.scanline.specs.Steps.{loaded, matchesAfter, meets, seenAt, clocked, broken, vectorRead, statusRead, targeted, enabledBy, bit7}
+use Rattle.scanline.specs.Ranges.{counterRefused}
+use Rattle.lines.specs.Events.{Event}
+use Rattle.lines.specs.Events.Event.{clock, fetch, cpuRead, cpuWrite, ppuWrite, other}
+use Rattle.lines.specs.Told.{History}
+
+unfoldable pub step : Detector → Event → Detector
+step d clock = clocked d
+step d (fetch a) = pick (countedAt a) (seenAt d a) d
+step d (cpuRead a) = pick (eqb a 0xFFFA || eqb a 0xFFFB) (vectorRead d) (pick (eqb a 0x5204) (statusRead d) d)
+step d (cpuWrite a v) = pick (eqb a 0x5203) (targeted d v) (pick (eqb a 0x5204) (enabledBy d v) d)
+step d (ppuWrite a v) = pick (eqb a 0x2001 && eqb (v / 8 % 4) 0) (broken d) d
+step d other = d
+
+-- after all calls of a history, taken or not
+unfoldable pub run : History → Detector
+run [] = loaded
+run (e ∷ h) = step (run h) e
+
+-- The detector with its tile count: what refusal 7 looks at.
+pub record Watched : Type 0 where
+  pub detector : Detector
+  pub tiles : ℕ
+
+abbrev pub atLoad : Watched
+atLoad = record { detector = loaded; tiles = 0 }
+
+unfoldable pub refused : Watched → Event → Bool
+refused w clock = false
+refused w (fetch a) = counterRefused (w .detector) (w .tiles) a
+refused w (cpuRead a) = false
+refused w (cpuWrite a v) = false
+refused w (ppuWrite a v) = false
+refused w other = false
+
+unfoldable pub tilesBy : Watched → Event → ℕ
+tilesBy w clock = w .tiles
+tilesBy w (fetch a) = pick (countedAt a) (leftAfter (matchesAfter (w .detector) a) (raisedBy (w .tiles) a)) (w .tiles)
+tilesBy w (cpuRead a) = w .tiles
+tilesBy w (cpuWrite a v) = w .tiles
+tilesBy w (ppuWrite a v) = w .tiles
+tilesBy w other = w .tiles
+
+-- the call e is taken from w to w': a fetch that refusal 7 is given for is no call of a history
+pub record Taken (w : Watched) (e : Event) (w' : Watched) : Type 0 where
+  pub allowed : refused w e ≡ false
+  pub moved : w' ≡ record { detector = step (w .detector) e; tiles = tilesBy w e }
+
+-- after the calls of a history, and whether each of them is taken
+unfoldable pub watched : History → Watched
+watched [] = atLoad
+watched (e ∷ h) = record { detector = step (watched h .detector) e; tiles = tilesBy (watched h) e }
+
+unfoldable pub allowed : History → Bool
+allowed [] = true
+allowed (e ∷ h) = allowed h && not (refused (watched h) e)
+
+-- The Rust stores `regs.irq_pending` beside the flag and the enable: what a call makes of it, p, where the detector before the call is d.
+-- "`regs.irq_pending`: not stored; shown equal to flag and enable against a definition that stores it."
+unfoldable pub irqPendingBy : Detector → Bool → Event → Bool
+irqPendingBy d p clock = p
+irqPendingBy d p (fetch a) = pick (countedAt a && meets d a) (pick (d .«irq_enabled») true p) p
+irqPendingBy d p (cpuRead a) = pick (eqb a 0xFFFA || eqb a 0xFFFB || eqb a 0x5204) false p
+irqPendingBy d p (cpuWrite a v) = pick (eqb a 0x5204) (pick (bit7 v) (pick (d .pending) true p) false) p
+irqPendingBy d p (ppuWrite a v) = p
+irqPendingBy d p other = p
+
+unfoldable pub irqPending : History → Bool
+irqPending [] = false
+irqPending (e ∷ h) = irqPendingBy (run h) (irqPending h) e

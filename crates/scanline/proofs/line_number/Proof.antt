@@ -1,0 +1,16 @@
+-- The number of a line that comes now, by the frame.
+use borrow.Author.Needs.{needs}
+use Rattle.scanline.proofs.line_number.Statement.{statement}
+use Rattle.scanline.proofs.line_number.Tie as tie
+
+add-result : tie.Need-add-result
+add-result c = search needs
+
+returns : tie.Need-returns
+returns c = rw (c .before .if1 .taken)
+
+returns-2 : tie.Need-returns-2
+returns-2 c = rw (c .if1 .left)
+
+pub line-number-spec : {M : Type 1} → statement M
+line-number-spec = tie.close (tie.spec add-result returns returns-2)

@@ -1,0 +1,135 @@
+-- Worked cases at the edges, one list under one statement: what a definition gives, and what 01 or the Rust says.
+-- 01, "Examples at the edges": "In frame, line counter 65,278 takes a line, 65,279 refuses."
+use Prim.Native.Nat.{ℕ, _+_}
+use mathlib.Core.Bool.{Bool, true, false, not, _&&_}
+use mathlib.Core.List.{List, [], _∷_, _++_}
+use lib.Dec.{eqb, T}
+use Rattle.memory.specs.Words.{pick}
+use Rattle.scanline.specs.declared.Detector.{Detector}
+use Rattle.scanline.specs.Fetches.{countedAt, attributeAt, nameAt}
+use Rattle.scanline.specs.Tiles.{spriteFetch, columnOf, isPrefetched, isFirst, tilesOk, raisedBy, leftAfter}
+use Rattle.scanline.specs.Steps.{matchesAfter, seenAt, clocked, broken, vectorRead, statusRead, targeted, enabledBy, statusOf, interruptUp}
+use Rattle.scanline.specs.Ranges.{rangesOk, counterRefused}
+
+pub record Case : Type 0 where
+  pub gives : ℕ
+  pub says : ℕ
+
+abbrev pub yes : Bool → ℕ
+yes b = pick b 1 0
+
+-- a test that holds, one that does not, and a number
+abbrev pub holds : Bool → Case
+holds b = record { gives = yes b; says = 1 }
+
+abbrev pub fails : Bool → Case
+fails b = record { gives = yes b; says = 0 }
+
+abbrev pub is : ℕ → ℕ → Case
+is n k = record { gives = n; says = k }
+
+-- after m fetches at $2000 equal to the one before them, with an idle count of i, in frame or not, at line n; the target is 5
+abbrev pub at : ℕ → ℕ → Bool → ℕ → Bool → Detector
+at m i framed n flag = record {
+  «prev_some» = true;
+  «prev_addr» = record { 0 = 0x2000 };
+  «match_count» = m;
+  reading = false;
+  «idle_count» = i;
+  «in_frame» = framed;
+  scanline = n;
+  pending = flag;
+  «irq_enabled» = false;
+  «irq_scanline» = 5;
+}
+
+abbrev pub addresses : List Case
+addresses =
+    fails (countedAt 0x1FFF)
+    ∷ holds (countedAt 0x2000)
+    ∷ holds (countedAt 0x3EFF)
+    ∷ fails (countedAt 0x3F00)
+    ∷ fails (attributeAt 0x23BF)
+    ∷ holds (attributeAt 0x23C0)
+    ∷ holds (attributeAt 0x3FFF)
+    ∷ fails (nameAt 0x1FFF)
+    ∷ holds (nameAt 0x2000)
+    ∷ holds (nameAt 0x2FBF)
+    ∷ fails (nameAt 0x2FC0)
+    ∷ fails (nameAt 0x3000)
+    ∷ []
+
+abbrev pub tiles : List Case
+tiles =
+    fails (spriteFetch 31)
+    ∷ holds (spriteFetch 32)
+    ∷ holds (spriteFetch 39)
+    ∷ fails (spriteFetch 40)
+    ∷ is (columnOf 0) 2
+    ∷ is (columnOf 39) 41
+    ∷ is (columnOf 40) 0
+    ∷ is (columnOf 42) 2
+    ∷ fails (isPrefetched 39)
+    ∷ holds (isPrefetched 40)
+    ∷ holds (isFirst 41)
+    ∷ fails (isFirst 42)
+    ∷ is (raisedBy 7 0x2000) 8
+    ∷ is (raisedBy 7 0x23C0) 7
+    ∷ is (raisedBy 7 0x3000) 7
+    -- the third of a run zeroes the count, and so does each equal after it
+    ∷ is (leftAfter (matchesAfter (at 0 0 true 3 false) 0x2000) 8) 8
+    ∷ is (leftAfter (matchesAfter (at 1 0 true 3 false) 0x2000) 8) 0
+    ∷ is (leftAfter (matchesAfter (at 2 0 true 3 false) 0x2000) 8) 0
+    ∷ is (leftAfter (matchesAfter (at 255 0 true 3 false) 0x2000) 8) 0
+    ∷ is (leftAfter (matchesAfter (at 1 0 true 3 false) 0x2001) 8) 8
+    ∷ []
+
+abbrev pub refusals : List Case
+refusals =
+    fails (counterRefused (at 1 0 true 65278 false) 0 0x2000)
+    ∷ holds (counterRefused (at 1 0 true 65279 false) 0 0x2000)
+    -- the second and the fourth of a run make no line
+    ∷ fails (counterRefused (at 0 0 true 65279 false) 0 0x2000)
+    ∷ fails (counterRefused (at 2 0 true 65279 false) 0 0x2000)
+    -- out of frame the line counter is what the last frame left
+    ∷ fails (counterRefused (at 1 0 false 65279 false) 0 0x2000)
+    ∷ fails (counterRefused (at 0 0 true 3 false) 4294967292 0x2000)
+    ∷ holds (counterRefused (at 0 0 true 3 false) 4294967293 0x2000)
+    -- even where the run then zeroes the count
+    ∷ holds (counterRefused (at 1 0 true 3 false) 4294967293 0x2000)
+    ∷ fails (counterRefused (at 1 0 true 3 false) 4294967293 0x23C0)
+    ∷ fails (counterRefused (at 1 0 true 3 false) 4294967293 0x3F00)
+    ∷ holds (tilesOk 4294967293)
+    ∷ fails (tilesOk 4294967294)
+    ∷ holds (rangesOk (at 0 2 true 65279 false))
+    ∷ fails (rangesOk (at 0 3 true 65279 false))
+    ∷ fails (rangesOk (at 0 2 true 65280 false))
+    ∷ []
+
+abbrev pub calls : List Case
+calls =
+    -- the third equal fetch: line 5 meets the target, line 0 does not
+    is (statusOf (seenAt (at 1 0 true 4 false) 0x2000)) 192
+    ∷ is (statusOf (seenAt (at 1 0 true 5 false) 0x2000)) 64
+    ∷ is (statusOf (seenAt (targeted (at 1 0 false 9 false) 0) 0x2000)) 64
+    ∷ is (seenAt (at 1 0 false 9 false) 0x2000 .scanline) 0
+    ∷ is (seenAt (at 1 0 true 9 false) 0x3000 .«match_count») 0
+    ∷ is (seenAt (at 255 0 true 9 false) 0x2000 .«match_count») 255
+    ∷ is (statusOf (clocked (at 0 1 true 9 true))) 192
+    ∷ is (statusOf (clocked (at 0 2 true 9 true))) 128
+    ∷ is (clocked (at 0 1 true 9 true) .«idle_count») 2
+    ∷ is (clocked (at 0 2 true 9 true) .«idle_count») 0
+    ∷ is (statusOf (broken (at 0 0 true 9 true))) 128
+    ∷ is (statusOf (vectorRead (at 0 0 true 9 true))) 0
+    ∷ is (statusOf (statusRead (at 0 0 true 9 true))) 64
+    ∷ is (statusOf (enabledBy (at 0 0 true 9 true) 0)) 192
+    ∷ holds (interruptUp (enabledBy (at 0 0 true 9 true) 128))
+    ∷ fails (interruptUp (enabledBy (at 0 0 true 9 true) 127))
+    ∷ []
+
+unfoldable pub right : List Case → Bool
+right [] = true
+right (c ∷ cs) = eqb (c .gives) (c .says) && right cs
+
+abbrev pub Edges : Type 0
+Edges = T (right (addresses ++ (tiles ++ (refusals ++ calls))))
