@@ -96,7 +96,14 @@ fn if_background(background: bool) -> usize
 }
 
 // The table with the eight pattern pages mapped.
-pub fn map_chr(chr_len: u32, chr_writable: bool, regs: Regs, banks: [u8; 16], background: bool, pages: [PageWord; 16]) -> [PageWord; 16]
+pub fn map_chr(
+    chr_len: u32,
+    chr_writable: bool,
+    regs: Regs,
+    banks: [u8; 16],
+    background: bool,
+    pages: [PageWord; 16],
+) -> [PageWord; 16]
     ensures { λ r. ⌜ r ≡ chrMapped «chr_len» «chr_writable» regs banks background pages ⌝ }
 {
     let mut next = pages;
@@ -111,7 +118,12 @@ pub fn map_chr(chr_len: u32, chr_writable: bool, regs: Regs, banks: [u8; 16], ba
 }
 
 // Which set a pattern fetch wants: the background's, or the sprites'.
-pub fn wants_background(sprite8x16: bool, sprite_fetch: bool, in_frame: bool, bg_written: bool) -> bool
+pub fn wants_background(
+    sprite8x16: bool,
+    sprite_fetch: bool,
+    in_frame: bool,
+    bg_written: bool,
+) -> bool
     ensures { λ r. ⌜ r ≡ background sprite8x16 «sprite_fetch» «in_frame» «bg_written» ⌝ }
 {
     sprite8x16 & (!sprite_fetch & (in_frame | bg_written))

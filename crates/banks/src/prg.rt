@@ -65,7 +65,13 @@ fn shown(prg_len: u32, ram_len: u32, unlocked: bool, value: u8) -> [PageWord; 8]
 }
 
 // The table with the five windows mapped.
-pub fn map_prg(prg_len: u32, ram_len: u32, regs: Regs, banks: [u8; 5], pages: [PageWord; 64]) -> [PageWord; 64]
+pub fn map_prg(
+    prg_len: u32,
+    ram_len: u32,
+    regs: Regs,
+    banks: [u8; 5],
+    pages: [PageWord; 64],
+) -> [PageWord; 64]
     requires { ⌜ («prg_len» % 1024 ≡ 0) × («ram_len» % 1024 ≡ 0) ⌝ }
     ensures { λ r. ⌜ r ≡ prgMapped «prg_len» «ram_len» regs banks pages ⌝ }
 {

@@ -3,15 +3,23 @@ ghost use mathlib.Core.Path.{_≡_};
 ghost use Rattle.memory.specs.Bytes.{memOf};
 ghost use Rattle.board.specs.Outcomes.{afterOf};
 ghost use Rattle.board.specs.CpuSide.{cpuRead, cpuPeek, cpuWrite};
-use answers::Answer;
-use answers::Refusal;
 use crate::Outcome;
 use crate::refuse;
+use answers::Answer;
+use answers::Refusal;
 use memory::CpuAddr;
 use state::State;
 use state::gate::Gate;
 
-pub fn cpu_read(s: State, prg: &[u8], chr: &[u8], ram: &[u8], ciram: &[u8], exram: &[u8], addr: CpuAddr) -> Outcome
+pub fn cpu_read(
+    s: State,
+    prg: &[u8],
+    chr: &[u8],
+    ram: &[u8],
+    ciram: &[u8],
+    exram: &[u8],
+    addr: CpuAddr,
+) -> Outcome
     ensures { λ r. ⌜ r ≡ cpuRead s (memOf (now (prg .entry)) (now (chr .entry)) (now (ram .entry)) (now (ciram .entry)) (now (exram .entry))) (addr .0) ⌝ }
 {
     let gate = state::gate::passed(s, prg.len(), chr.len(), ram.len(), ciram.len(), exram.len());
@@ -29,7 +37,15 @@ pub fn cpu_read(s: State, prg: &[u8], chr: &[u8], ram: &[u8], ciram: &[u8], exra
     Outcome { answer, state: t }
 }
 
-pub fn cpu_peek(s: State, prg: &[u8], chr: &[u8], ram: &[u8], ciram: &[u8], exram: &[u8], addr: CpuAddr) -> Answer
+pub fn cpu_peek(
+    s: State,
+    prg: &[u8],
+    chr: &[u8],
+    ram: &[u8],
+    ciram: &[u8],
+    exram: &[u8],
+    addr: CpuAddr,
+) -> Answer
     ensures { λ r. ⌜ r ≡ cpuPeek s (memOf (now (prg .entry)) (now (chr .entry)) (now (ram .entry)) (now (ciram .entry)) (now (exram .entry))) (addr .0) ⌝ }
 {
     let gate = state::gate::passed(s, prg.len(), chr.len(), ram.len(), ciram.len(), exram.len());

@@ -4,9 +4,9 @@ ghost use mathlib.Core.Bool.{true};
 ghost use Rattle.memory.specs.Bytes.{memOf};
 ghost use Rattle.state.specs.Lengths.{lengthsOk};
 ghost use Rattle.board.specs.Loads.{zeroState, notLoaded, loadedState, loadCall};
+use crate::Outcome;
 use answers::Answer;
 use answers::Refusal;
-use crate::Outcome;
 use memory::PageWord;
 use memory::PpuAddr;
 use registers::Mirroring;
@@ -78,7 +78,14 @@ fn loaded(lengths: Lengths, mirroring: Mirroring) -> State
     let prg_blank = [PageWord(0); 64];
     let prg_pages = banks::prg::map_prg(lengths.prg, lengths.ram, regs, prg_banks, prg_blank);
     let chr_blank = [PageWord(0); 16];
-    let patterns = banks::chr::map_chr(lengths.chr, lengths.chr_writable, regs, chr_banks, false, chr_blank);
+    let patterns = banks::chr::map_chr(
+        lengths.chr,
+        lengths.chr_writable,
+        regs,
+        chr_banks,
+        false,
+        chr_blank,
+    );
     let chr_pages = banks::names::map_names(0, false, patterns);
     State {
         lengths,

@@ -1,12 +1,12 @@
 // Calls on the state alone: reset, clock, PPU register write, mirroring, and whether the interrupt is up.
 ghost use mathlib.Core.Path.{_≡_};
 ghost use Rattle.board.specs.Whole.{resetCall, mirroringCall, interruptCall, clockCall, toldPpu, ppuRegisterCall};
-use answers::Answer;
-use answers::Refusal;
 use crate::Interrupt;
 use crate::Outcome;
 use crate::Told;
 use crate::refuse;
+use answers::Answer;
+use answers::Refusal;
 use memory::CpuAddr;
 use state::State;
 

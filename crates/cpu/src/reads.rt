@@ -4,9 +4,9 @@ ghost use Prim.Native.Nat.{_*_};
 ghost use Rattle.memory.specs.Bytes.{memOf};
 ghost use Rattle.memory.specs.Words.{pageOf};
 ghost use Rattle.cpu.specs.Reads.{shownAs, pageAnswer, registerRead, irqRead, cpuAnswer, audioRead};
-use answers::Answer;
 use crate::groups;
 use crate::writes;
+use answers::Answer;
 use memory::PageWord;
 use memory::Src;
 use registers::Regs;
@@ -29,7 +29,15 @@ fn shown_as(src: Src, val: u8) -> Answer
 }
 
 // What a page word answers at an address.
-pub fn page_answer(prg: &[u8], chr: &[u8], ram: &[u8], ciram: &[u8], exram: &[u8], word: PageWord, addr: u16) -> Answer
+pub fn page_answer(
+    prg: &[u8],
+    chr: &[u8],
+    ram: &[u8],
+    ciram: &[u8],
+    exram: &[u8],
+    word: PageWord,
+    addr: u16,
+) -> Answer
     ensures { λ r. ⌜ r ≡ pageAnswer (memOf (now (prg .entry)) (now (chr .entry)) (now (ram .entry)) (now (ciram .entry)) (now (exram .entry))) (pageOf word) addr ⌝ }
 {
     let place = memory::words::place_of(word, addr);
@@ -97,7 +105,15 @@ pub fn irq_read(irq: Detector, addr: u16) -> Detector
 }
 
 // What a CPU read or peek answers.
-pub fn answer_at(s: State, prg: &[u8], chr: &[u8], ram: &[u8], ciram: &[u8], exram: &[u8], addr: u16) -> Answer
+pub fn answer_at(
+    s: State,
+    prg: &[u8],
+    chr: &[u8],
+    ram: &[u8],
+    ciram: &[u8],
+    exram: &[u8],
+    addr: u16,
+) -> Answer
     ensures { λ r. ⌜ r ≡ cpuAnswer s (memOf (now (prg .entry)) (now (chr .entry)) (now (ram .entry)) (now (ciram .entry)) (now (exram .entry))) addr ⌝ }
 {
     let pages = s.prg_pages;

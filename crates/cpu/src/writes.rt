@@ -18,7 +18,8 @@ use state::State;
 fn maps_prg(addr: u16) -> bool
     ensures { λ r. ⌜ r ≡ mapsPrg addr ⌝ }
 {
-    (addr == 0x5100) | (groups::is_within(0x5102, 0x5103, addr) | groups::is_within(0x5113, 0x5117, addr))
+    (addr == 0x5100)
+        | (groups::is_within(0x5102, 0x5103, addr) | groups::is_within(0x5113, 0x5117, addr))
 }
 
 // CHR mode, CHR banks and the upper CHR bits.
@@ -28,7 +29,13 @@ fn maps_chr(addr: u16) -> bool
     (addr == 0x5101) | (groups::is_within(0x5120, 0x512B, addr) | (addr == 0x5130))
 }
 
-pub fn prg_pages_after(z: Lengths, regs: Regs, banks: [u8; 5], pages: [PageWord; 64], addr: u16) -> [PageWord; 64]
+pub fn prg_pages_after(
+    z: Lengths,
+    regs: Regs,
+    banks: [u8; 5],
+    pages: [PageWord; 64],
+    addr: u16,
+) -> [PageWord; 64]
     requires { ⌜ lengthsOk z ≡ true ⌝ }
     ensures { λ r. ⌜ r ≡ prgPagesAfter z regs banks pages addr ⌝ }
 {
@@ -44,7 +51,14 @@ pub fn prg_pages_after(z: Lengths, regs: Regs, banks: [u8; 5], pages: [PageWord;
     next
 }
 
-pub fn chr_pages_after(z: Lengths, regs: Regs, banks: [u8; 16], bg_set: bool, pages: [PageWord; 16], addr: u16) -> [PageWord; 16]
+pub fn chr_pages_after(
+    z: Lengths,
+    regs: Regs,
+    banks: [u8; 16],
+    bg_set: bool,
+    pages: [PageWord; 16],
+    addr: u16,
+) -> [PageWord; 16]
     ensures { λ r. ⌜ r ≡ chrPagesAfter z regs banks «bg_set» pages addr ⌝ }
 {
     if maps_chr(addr) {

@@ -135,5 +135,6 @@ pub fn ranges_ok(regs: Regs) -> bool
             & ((regs.exram_mode <= 3)
                 & ((regs.fill_attr <= 3)
                     & ((regs.protect_a <= 3)
-                        & ((regs.protect_b <= 3) & ((regs.chr_hi % 256 == 0) & (regs.chr_hi <= 768)))))))
+                        & ((regs.protect_b <= 3)
+                            & ((regs.chr_hi % 256 == 0) & (regs.chr_hi <= 768)))))))
 }

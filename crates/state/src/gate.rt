@@ -1,10 +1,10 @@
 // Refusals 4 and 5: what every call on a state asks first.
 ghost use mathlib.Core.Path.{_≡_};
 ghost use Rattle.state.specs.Gate.{sameLengths, gateOf};
-use answers::Refusal;
 use crate::Lengths;
 use crate::State;
 use crate::ranges;
+use answers::Refusal;
 
 pub enum Gate {
     Open,
@@ -17,7 +17,8 @@ fn same_lengths(z: Lengths, prg: usize, chr: usize, ram: usize, ciram: usize, ex
 {
     (z.prg as usize == prg)
         & ((z.chr as usize == chr)
-            & ((z.ram as usize == ram) & ((z.ciram as usize == ciram) & (z.exram as usize == exram))))
+            & ((z.ram as usize == ram)
+                & ((z.ciram as usize == ciram) & (z.exram as usize == exram))))
 }
 
 // The lengths of the five lent buffers against the state.

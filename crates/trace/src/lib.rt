@@ -4,9 +4,9 @@ ghost use mathlib.Core.Path.{_≡_};
 ghost use Rattle.trace.specs.Records.{kindOf, tooLong};
 ghost use Rattle.trace.specs.Promise.{Reading};
 ghost use Rattle.trace.specs.Examples.{Examples};
+use answers::Refusal;
 use memory::CpuAddr;
 use memory::PpuAddr;
-use answers::Refusal;
 
 pub mod numbers;
 pub mod reader;

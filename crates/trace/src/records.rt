@@ -5,9 +5,9 @@ use crate::Call;
 use crate::Found;
 use crate::Numeral;
 use crate::numbers;
+use answers::Refusal;
 use memory::CpuAddr;
 use memory::PpuAddr;
-use answers::Refusal;
 
 // The call of a kind that has an address and a value.
 fn call_over(kind: u8, address: u16, value: u8) -> Call

@@ -1,14 +1,11 @@
+-- The two arms are the two cases of attribute use.
 use borrow.Author.Tests.{eq-eqb, ne-eqb}
 use Rattle.registers.proofs.chr_mode_for.Statement.{statement}
 use Rattle.registers.proofs.chr_mode_for.Tie as tie
-use Rattle.registers.proofs.chr_mode_for.Reads as reads
-use Rattle.registers.proofs.chr_mode_for.Lts as lts
 
--- src/lib.rt:74:1
 returns : tie.Need-returns
 returns c = rw (eq-eqb _ _ (c .if1 .taken))
 
--- src/lib.rt:74:1
 returns-2 : tie.Need-returns-2
 returns-2 c = rw (ne-eqb _ _ (c .if1 .left))
 

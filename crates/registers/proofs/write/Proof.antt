@@ -1,80 +1,63 @@
-use Rattle.registers.specs.Registers.{written}
-use borrow.Author.Tests.{eq-eqb, ne-eqb}
+-- Each arm has one address, by which every other field stays; the last has none of them.
 use borrow.Author.Needs.{needs}
+use borrow.Author.Tests.{ne-eqb}
+use Rattle.registers.specs.Registers.{written}
 use Rattle.registers.proofs.write.Statement.{statement}
 use Rattle.registers.proofs.write.Tie as tie
-use Rattle.registers.proofs.write.Reads as reads
-use Rattle.registers.proofs.write.Lts as lts
-use Rattle.registers.proofs.chr_mode_for.Reads as chr-mode-for-reads
 
--- src/lib.rt:88:19
 chr-mode-for-requires : tie.Need-chr-mode-for-requires
 chr-mode-for-requires c κs = search needs
 
--- src/lib.rt:98:33
 cast-next : tie.Need-cast-next
 cast-next c = search needs
 
--- src/lib.rt:98:33
 mul-next : tie.Need-mul-next
 mul-next c = search needs
 
--- src/lib.rt:81:1
 returns : tie.Need-returns
 unfolding written
 returns c = rw (c .match .keys1)
 
--- src/lib.rt:81:1
 returns-2 : tie.Need-returns-2
 unfolding written
 returns-2 c = rw (c .before .match .keys2, c .chr-mode-for .ensures)
 
--- src/lib.rt:81:1
 returns-3 : tie.Need-returns-3
 unfolding written
 returns-3 c = rw (c .match .keys3)
 
--- src/lib.rt:81:1
 returns-4 : tie.Need-returns-4
 unfolding written
 returns-4 c = rw (c .match .keys4)
 
--- src/lib.rt:81:1
 returns-5 : tie.Need-returns-5
 unfolding written
 returns-5 c = rw (c .match .keys5)
 
--- src/lib.rt:81:1
 returns-6 : tie.Need-returns-6
 unfolding written
 returns-6 c = rw (c .match .keys6)
 
--- src/lib.rt:81:1
 returns-7 : tie.Need-returns-7
 unfolding written
 returns-7 c = rw (c .match .keys7)
 
--- src/lib.rt:81:1
 returns-8 : tie.Need-returns-8
 unfolding written
 returns-8 c = rw (c .match .keys8)
 
--- src/lib.rt:81:1
 returns-9 : tie.Need-returns-9
 unfolding written
 returns-9 c = rw (c .match .keys9)
 
--- src/lib.rt:81:1
 returns-10 : tie.Need-returns-10
 unfolding written
 returns-10 c = rw (c .match .keys10)
 
--- src/lib.rt:81:1
 returns-11 : tie.Need-returns-11
 unfolding written
 returns-11 c = rw (c .match .keys11)
 
--- src/lib.rt:81:1
 returns-12 : tie.Need-returns-12
 unfolding written
 returns-12 c = simp (ne-eqb _ _ (c .match .rest .0 .0 .0 .0 .0 .0 .0 .0 .0 .0 .1), ne-eqb _ _ (c .match .rest .0 .0 .0 .0 .0 .0 .0 .0 .0 .1), ne-eqb _ _ (c .match .rest .0 .0 .0 .0 .0 .0 .0 .0 .1), ne-eqb _ _ (c .match .rest .0 .0 .0 .0 .0 .0 .0 .1), ne-eqb _ _ (c .match .rest .0 .0 .0 .0 .0 .0 .1), ne-eqb _ _ (c .match .rest .0 .0 .0 .0 .0 .1), ne-eqb _ _ (c .match .rest .0 .0 .0 .0 .1), ne-eqb _ _ (c .match .rest .0 .0 .0 .1), ne-eqb _ _ (c .match .rest .0 .0 .1), ne-eqb _ _ (c .match .rest .0 .1), ne-eqb _ _ (c .match .rest .1))

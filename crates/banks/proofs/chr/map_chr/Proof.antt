@@ -1,19 +1,15 @@
-use Rattle.banks.proofs.PlacedLaws.{placed-none, placed-next-first}
+-- Eight entries from the first on: `placed-next-first`.
+use Prim.Native.Nat.{ℕ, _-_, _≤_}
+use mathlib.Core.Path.{_≡_}
 use native.Mathlib.Omega.{arith}
-use Rattle.banks.proofs.PlacedLaws.{placed-none, placed-next-first}
-use Rattle.banks.specs.Placed.{placed}
+use borrow.Author.Needs.{needs}
 use Rattle.banks.specs.Chr.{chrNumber, chrMapped}
+use Rattle.banks.specs.Placed.{placed}
 use Rattle.memory.specs.Windows.{chrWindow}
 use Rattle.memory.specs.declared.Src.the-variants.{Chr}
-use mathlib.Core.Path.{_≡_}
-use Prim.Native.Nat.{ℕ, _-_, _≤_}
-use borrow.Author.Needs.{needs}
+use Rattle.banks.proofs.PlacedLaws.{placed-none, placed-next-first}
 use Rattle.banks.proofs.chr.map_chr.Statement.{statement}
 use Rattle.banks.proofs.chr.map_chr.Tie as tie
-use Rattle.banks.proofs.chr.map_chr.Reads as reads
-use Rattle.banks.proofs.chr.map_chr.Lts as lts
-use Rattle.banks.proofs.chr.chr_number.Reads as chr-number-reads
-use Rattle.memory.proofs.windows.chr_window.Reads as chr-window-reads
 
 abbrev Inv-loop : tie.InvT-loop
 Inv-loop chr-len chr-writable regs banks background next₀ k₀ next k = (k ≤ 8) × (next ≡ placed next₀ 0 (λ (j : ℕ). chrWindow Chr chr-len (chrNumber regs banks background j) chr-writable) k)
@@ -21,39 +17,30 @@ Inv-loop chr-len chr-writable regs banks background next₀ k₀ next k = (k ≤
 abbrev μ-loop : tie.MeasureT-loop
 μ-loop chr-len chr-writable regs banks background next₀ k₀ next k = 8 - k
 
--- src/chr.rt:96:5
 loop-holds : tie.Need-loop-holds Inv-loop μ-loop
 loop-holds c = (search needs, placed-none _ _ _)
 
--- src/chr.rt:97:13
 chr-number-requires : tie.Need-chr-number-requires Inv-loop μ-loop
 chr-number-requires c κs = search needs
 
--- src/chr.rt:98:13
 chr-window-requires : tie.Need-chr-window-requires Inv-loop μ-loop
 chr-window-requires c κs = search needs
 
--- src/chr.rt:99:9
 mul-next : tie.Need-mul-next Inv-loop μ-loop
 mul-next c = search needs
 
--- src/chr.rt:99:9
 array-set-from-next : tie.Need-array-set-from-next Inv-loop μ-loop
 array-set-from-next c = search needs
 
--- src/chr.rt:100:9
 add-k : tie.Need-add-k Inv-loop μ-loop
 add-k c = search needs
 
--- src/chr.rt:96:5
 loop-less : tie.Need-loop-less Inv-loop μ-loop
 loop-less c = search needs
 
--- src/chr.rt:96:5
 loop-again : tie.Need-loop-again Inv-loop μ-loop
 loop-again c = (search needs, placed-next-first _ _ _ _ _ (c .before .before .before .loop .inv .1) (rw (← c .before .chr-number .ensures) (c .chr-window .ensures)))
 
--- src/chr.rt:91:1
 returns : tie.Need-returns Inv-loop μ-loop
 unfolding chrMapped
 returns c = let e : c .before .loop .k ≡ 8 = omega arith in rw e at (c .before .loop .inv .1)

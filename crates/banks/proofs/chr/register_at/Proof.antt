@@ -1,44 +1,35 @@
-use Rattle.banks.specs.Chr.{windowPages}
+-- Each arm is a mode, whose window size is a number.
 use native.Mathlib.Omega.{arith}
-use borrow.Author.Tests.{eq-eqb, ne-eqb, lt-ltb, le-ltb, le-leb, lt-leb}
 use borrow.Author.Needs.{needs}
+use borrow.Author.Tests.{ne-eqb}
+use Rattle.banks.specs.Chr.{windowPages}
 use Rattle.banks.proofs.chr.register_at.Statement.{statement}
 use Rattle.banks.proofs.chr.register_at.Tie as tie
-use Rattle.banks.proofs.chr.register_at.Reads as reads
-use Rattle.banks.proofs.chr.register_at.Lts as lts
 
--- src/chr.rt:53:14
 mul-result : tie.Need-mul-result
 mul-result c = search needs
 
--- src/chr.rt:53:14
 add-result : tie.Need-add-result
 add-result c = search needs
 
--- src/chr.rt:54:14
 mul-result-2 : tie.Need-mul-result-2
 mul-result-2 c = search needs
 
--- src/chr.rt:54:14
 add-result-2 : tie.Need-add-result-2
 add-result-2 c = search needs
 
--- src/chr.rt:47:1
 returns : tie.Need-returns
 unfolding windowPages
 returns c = rw (c .match .keys1) (omega arith)
 
--- src/chr.rt:47:1
 returns-2 : tie.Need-returns-2
 unfolding windowPages
 returns-2 c = rw (c .match .keys2) (omega arith)
 
--- src/chr.rt:47:1
 returns-3 : tie.Need-returns-3
 unfolding windowPages
 returns-3 c = rw (c .match .keys3) (omega arith)
 
--- src/chr.rt:47:1
 returns-4 : tie.Need-returns-4
 unfolding windowPages
 returns-4 c = simp (ne-eqb _ _ (c .match .rest .0 .0 .1), ne-eqb _ _ (c .match .rest .0 .1), ne-eqb _ _ (c .match .rest .1)) (omega arith)

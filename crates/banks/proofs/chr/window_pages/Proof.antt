@@ -1,26 +1,21 @@
+-- Each arm is a mode.
+use borrow.Author.Tests.{ne-eqb}
 use Rattle.banks.specs.Chr.{windowPages}
-use borrow.Author.Tests.{eq-eqb, ne-eqb, lt-ltb, le-ltb, le-leb, lt-leb}
 use Rattle.banks.proofs.chr.window_pages.Statement.{statement}
 use Rattle.banks.proofs.chr.window_pages.Tie as tie
-use Rattle.banks.proofs.chr.window_pages.Reads as reads
-use Rattle.banks.proofs.chr.window_pages.Lts as lts
 
--- src/chr.rt:11:1
 returns : tie.Need-returns
 unfolding windowPages
 returns c = rw (c .match .keys1)
 
--- src/chr.rt:11:1
 returns-2 : tie.Need-returns-2
 unfolding windowPages
 returns-2 c = rw (c .match .keys2)
 
--- src/chr.rt:11:1
 returns-3 : tie.Need-returns-3
 unfolding windowPages
 returns-3 c = rw (c .match .keys3)
 
--- src/chr.rt:11:1
 returns-4 : tie.Need-returns-4
 unfolding windowPages
 returns-4 c = simp (ne-eqb _ _ (c .match .rest .0 .0 .1), ne-eqb _ _ (c .match .rest .0 .1), ne-eqb _ _ (c .match .rest .1))

@@ -1,16 +1,13 @@
-use Rattle.banks.proofs.PlacedLaws.{placed-none, placed-next}
-use Rattle.banks.specs.Placed.{placed}
-use Rattle.banks.specs.Names.{selector, namePage, namesMapped}
-use mathlib.Core.Path.{_≡_}
+-- Eight entries from $2000 on: `placed-next`.
 use Prim.Native.Nat.{ℕ, _-_, _≤_}
-use borrow.Author.Needs.{needs}
+use mathlib.Core.Path.{_≡_}
 use native.Mathlib.Omega.{arith}
+use borrow.Author.Needs.{needs}
+use Rattle.banks.specs.Names.{selector, namePage, namesMapped}
+use Rattle.banks.specs.Placed.{placed}
+use Rattle.banks.proofs.PlacedLaws.{placed-none, placed-next}
 use Rattle.banks.proofs.names.map_names.Statement.{statement}
 use Rattle.banks.proofs.names.map_names.Tie as tie
-use Rattle.banks.proofs.names.map_names.Reads as reads
-use Rattle.banks.proofs.names.map_names.Lts as lts
-use Rattle.banks.proofs.names.name_page.Reads as name-page-reads
-use Rattle.banks.proofs.names.selector_of.Reads as selector-of-reads
 
 abbrev Inv-loop : tie.InvT-loop
 Inv-loop nametables nametable-use next₀ k₀ next k = (k ≤ 8) × (next ≡ placed next₀ 8 (λ (j : ℕ). namePage (selector nametables j) nametable-use) k)
@@ -18,47 +15,36 @@ Inv-loop nametables nametable-use next₀ k₀ next k = (k ≤ 8) × (next ≡ p
 abbrev μ-loop : tie.MeasureT-loop
 μ-loop nametables nametable-use next₀ k₀ next k = 8 - k
 
--- src/names.rt:44:5
 loop-holds : tie.Need-loop-holds Inv-loop μ-loop
 loop-holds c = (search needs, placed-none _ _ _)
 
--- src/names.rt:45:13
 selector-of-requires : tie.Need-selector-of-requires Inv-loop μ-loop
 selector-of-requires c κs = search needs
 
--- src/names.rt:46:13
 name-page-requires : tie.Need-name-page-requires Inv-loop μ-loop
 name-page-requires c κs = search needs
 
--- src/names.rt:47:18
 cast-next : tie.Need-cast-next Inv-loop μ-loop
 cast-next c = search needs
 
--- src/names.rt:47:14
 add-next : tie.Need-add-next Inv-loop μ-loop
 add-next c = search needs
 
--- src/names.rt:47:9
 mul-next : tie.Need-mul-next Inv-loop μ-loop
 mul-next c = search needs
 
--- src/names.rt:47:9
 array-set-from-next : tie.Need-array-set-from-next Inv-loop μ-loop
 array-set-from-next c = search needs
 
--- src/names.rt:48:9
 add-k : tie.Need-add-k Inv-loop μ-loop
 add-k c = search needs
 
--- src/names.rt:44:5
 loop-less : tie.Need-loop-less Inv-loop μ-loop
 loop-less c = search needs
 
--- src/names.rt:44:5
 loop-again : tie.Need-loop-again Inv-loop μ-loop
 loop-again c = (search needs, placed-next _ _ 8 _ _ _ (c .before .before .before .loop .inv .1) (rw (← c .before .selector-of .ensures) (c .name-page .ensures)))
 
--- src/names.rt:39:1
 returns : tie.Need-returns Inv-loop μ-loop
 unfolding namesMapped
 returns c = let e : c .before .loop .k ≡ 8 = omega arith in rw e at (c .before .loop .inv .1)

@@ -1,17 +1,13 @@
-use Rattle.banks.proofs.BankLaws.{windows-next}
+-- Five windows, one after another: `windows-next`.
+use Prim.Native.Nat.{_-_, _≤_}
 use mathlib.Core.Path.{_≡_, _∙_, refl}
-use native.Mathlib.Omega.{arith}
-use Rattle.banks.specs.Prg.{windowsMapped}
 use mathlib.Core.Path.{_≡_, refl}
-use Prim.Native.Nat.{ℕ, _-_, _≤_}
+use native.Mathlib.Omega.{arith}
 use borrow.Author.Needs.{needs}
+use Rattle.banks.specs.Prg.{windowsMapped}
+use Rattle.banks.proofs.BankLaws.{windows-next}
 use Rattle.banks.proofs.prg.map_prg.Statement.{statement}
 use Rattle.banks.proofs.prg.map_prg.Tie as tie
-use Rattle.banks.proofs.prg.map_prg.Reads as reads
-use Rattle.banks.proofs.prg.map_prg.Lts as lts
-use Rattle.banks.proofs.prg.shown.Reads as shown-reads
-use Rattle.banks.proofs.prg.values.Reads as values-reads
-use Rattle.registers.proofs.unlocked.Reads as unlocked-reads
 
 abbrev Inv-loop : tie.InvT-loop
 Inv-loop prg-len ram-len unlocked mode shows next₀ i₀ next i = (i ≤ 5) × (next ≡ windowsMapped prg-len ram-len unlocked shows next₀ i)
@@ -19,172 +15,130 @@ Inv-loop prg-len ram-len unlocked mode shows next₀ i₀ next i = (i ≤ 5) × 
 abbrev μ-loop : tie.MeasureT-loop
 μ-loop prg-len ram-len unlocked mode shows next₀ i₀ next i = 5 - i
 
--- src/prg.rt:52:9
 unlocked-requires : tie.Need-unlocked-requires Inv-loop μ-loop
 unlocked-requires c κs = search needs
 
--- src/prg.rt:54:17
 values-requires : tie.Need-values-requires Inv-loop μ-loop
 values-requires c κs = search needs
 
--- src/prg.rt:57:5
 loop-holds : tie.Need-loop-holds Inv-loop μ-loop
 unfolding windowsMapped
 loop-holds c = (search needs, refl)
 
--- src/prg.rt:58:21
 array-read-value : tie.Need-array-read-value Inv-loop μ-loop
 array-read-value c = search needs
 
--- src/prg.rt:59:21
 shown-requires : tie.Need-shown-requires Inv-loop μ-loop
 shown-requires c κs = search needs
 
--- src/prg.rt:60:23
 mul-at : tie.Need-mul-at Inv-loop μ-loop
 mul-at c = search needs
 
--- src/prg.rt:60:18
 add-at : tie.Need-add-at Inv-loop μ-loop
 add-at c = search needs
 
--- src/prg.rt:61:20
 array-copy-out-next : tie.Need-array-copy-out-next Inv-loop μ-loop
 array-copy-out-next c = search needs
 
--- src/prg.rt:61:9
 mul-next : tie.Need-mul-next Inv-loop μ-loop
 mul-next c = search needs
 
--- src/prg.rt:61:9
 array-set-from-next : tie.Need-array-set-from-next Inv-loop μ-loop
 array-set-from-next c = search needs
 
--- src/prg.rt:62:24
 array-copy-out-next-2 : tie.Need-array-copy-out-next-2 Inv-loop μ-loop
 array-copy-out-next-2 c = search needs
 
--- src/prg.rt:62:14
 add-next : tie.Need-add-next Inv-loop μ-loop
 add-next c = search needs
 
--- src/prg.rt:62:9
 mul-next-2 : tie.Need-mul-next-2 Inv-loop μ-loop
 mul-next-2 c = search needs
 
--- src/prg.rt:62:9
 array-set-from-next-2 : tie.Need-array-set-from-next-2 Inv-loop μ-loop
 array-set-from-next-2 c = search needs
 
--- src/prg.rt:63:24
 array-copy-out-next-3 : tie.Need-array-copy-out-next-3 Inv-loop μ-loop
 array-copy-out-next-3 c = search needs
 
--- src/prg.rt:63:14
 add-next-2 : tie.Need-add-next-2 Inv-loop μ-loop
 add-next-2 c = search needs
 
--- src/prg.rt:63:9
 mul-next-3 : tie.Need-mul-next-3 Inv-loop μ-loop
 mul-next-3 c = search needs
 
--- src/prg.rt:63:9
 array-set-from-next-3 : tie.Need-array-set-from-next-3 Inv-loop μ-loop
 array-set-from-next-3 c = search needs
 
--- src/prg.rt:64:24
 array-copy-out-next-4 : tie.Need-array-copy-out-next-4 Inv-loop μ-loop
 array-copy-out-next-4 c = search needs
 
--- src/prg.rt:64:14
 add-next-3 : tie.Need-add-next-3 Inv-loop μ-loop
 add-next-3 c = search needs
 
--- src/prg.rt:64:9
 mul-next-4 : tie.Need-mul-next-4 Inv-loop μ-loop
 mul-next-4 c = search needs
 
--- src/prg.rt:64:9
 array-set-from-next-4 : tie.Need-array-set-from-next-4 Inv-loop μ-loop
 array-set-from-next-4 c = search needs
 
--- src/prg.rt:65:24
 array-copy-out-next-5 : tie.Need-array-copy-out-next-5 Inv-loop μ-loop
 array-copy-out-next-5 c = search needs
 
--- src/prg.rt:65:14
 add-next-4 : tie.Need-add-next-4 Inv-loop μ-loop
 add-next-4 c = search needs
 
--- src/prg.rt:65:9
 mul-next-5 : tie.Need-mul-next-5 Inv-loop μ-loop
 mul-next-5 c = search needs
 
--- src/prg.rt:65:9
 array-set-from-next-5 : tie.Need-array-set-from-next-5 Inv-loop μ-loop
 array-set-from-next-5 c = search needs
 
--- src/prg.rt:66:24
 array-copy-out-next-6 : tie.Need-array-copy-out-next-6 Inv-loop μ-loop
 array-copy-out-next-6 c = search needs
 
--- src/prg.rt:66:14
 add-next-5 : tie.Need-add-next-5 Inv-loop μ-loop
 add-next-5 c = search needs
 
--- src/prg.rt:66:9
 mul-next-6 : tie.Need-mul-next-6 Inv-loop μ-loop
 mul-next-6 c = search needs
 
--- src/prg.rt:66:9
 array-set-from-next-6 : tie.Need-array-set-from-next-6 Inv-loop μ-loop
 array-set-from-next-6 c = search needs
 
--- src/prg.rt:67:24
 array-copy-out-next-7 : tie.Need-array-copy-out-next-7 Inv-loop μ-loop
 array-copy-out-next-7 c = search needs
 
--- src/prg.rt:67:14
 add-next-6 : tie.Need-add-next-6 Inv-loop μ-loop
 add-next-6 c = search needs
 
--- src/prg.rt:67:9
 mul-next-7 : tie.Need-mul-next-7 Inv-loop μ-loop
 mul-next-7 c = search needs
 
--- src/prg.rt:67:9
 array-set-from-next-7 : tie.Need-array-set-from-next-7 Inv-loop μ-loop
 array-set-from-next-7 c = search needs
 
--- src/prg.rt:68:24
 array-copy-out-next-8 : tie.Need-array-copy-out-next-8 Inv-loop μ-loop
 array-copy-out-next-8 c = search needs
 
--- src/prg.rt:68:14
 add-next-7 : tie.Need-add-next-7 Inv-loop μ-loop
 add-next-7 c = search needs
 
--- src/prg.rt:68:9
 mul-next-8 : tie.Need-mul-next-8 Inv-loop μ-loop
 mul-next-8 c = search needs
 
--- src/prg.rt:68:9
 array-set-from-next-8 : tie.Need-array-set-from-next-8 Inv-loop μ-loop
 array-set-from-next-8 c = search needs
 
--- src/prg.rt:69:9
 add-i : tie.Need-add-i Inv-loop μ-loop
 add-i c = search needs
 
--- src/prg.rt:57:5
 loop-less : tie.Need-loop-less Inv-loop μ-loop
 loop-less c = search needs
 
--- src/prg.rt:57:5
 loop-again : tie.Need-loop-again Inv-loop μ-loop
 loop-again c = (search needs, windows-next _ _ _ _ _ _ _ _ (c .before .before .before .before .before .before .before .before .before .before .loop .inv .1) (c .before .before .before .before .before .before .before .before .shown .ensures))
 
--- src/prg.rt:48:1
 returns : tie.Need-returns Inv-loop μ-loop
 returns c = let e : c .before .loop .i ≡ 5 = omega arith in (rw e at (c .before .loop .inv .1)) ∙ rw (c .before .before .values .ensures, c .before .before .before .unlocked .ensures)
 

@@ -1,30 +1,21 @@
-use Rattle.state.proofs.GateLaws.{open-in-range, range-lengths}
-use Rattle.board.specs.Outcomes.{afterOf}
-use Rattle.board.specs.CpuSide.{cpuWrite}
-use mathlib.Core.Path.{_≡_, refl, sym, ap, _∙_}
+-- The gate, refusal 6, and then what `cpu_write` of the CPU's side says, for the buffers too.
+use mathlib.Core.Path.{sym, ap, _∙_}
 use borrow.Author.Needs.{needs}
+use Rattle.board.specs.CpuSide.{cpuWrite}
+use Rattle.board.specs.Outcomes.{afterOf}
+use Rattle.state.proofs.GateLaws.{open-in-range, range-lengths}
 use Rattle.board.proofs.cpu_side.cpu_write.Statement.{statement}
 use Rattle.board.proofs.cpu_side.cpu_write.Tie as tie
-use Rattle.board.proofs.cpu_side.cpu_write.Reads as reads
-use Rattle.board.proofs.cpu_side.cpu_write.Lts as lts
-use Rattle.board.proofs.refuse.Reads as refuse-reads
-use Rattle.cpu.proofs.writes.audio_write.Reads as audio-write-reads
-use Rattle.cpu.proofs.writes.cpu_write.Reads as cpu-write-reads
-use Rattle.state.proofs.gate.passed.Reads as passed-reads
 
--- src/cpu_side.rt:59:9
 passed-requires : tie.Need-passed-requires
 passed-requires c κs = search needs
 
--- src/cpu_side.rt:60:23
 enum-known-gate : tie.Need-enum-known-gate
 enum-known-gate c = search needs
 
--- src/cpu_side.rt:61:9
 refuse-requires : tie.Need-refuse-requires
 refuse-requires c κs = search needs
 
--- src/cpu_side.rt:61:9
 returns : tie.Need-returns
 unfolding cpuWrite
 returns c = rw (← c .before .before .before .before .passed .ensures, c .before .before .gate .given .1, c .refuse .ensures)
@@ -32,40 +23,31 @@ returns c = rw (← c .before .before .before .before .passed .ensures, c .befor
 enum-told : tie.Need-enum-told
 enum-told c = search needs
 
--- src/cpu_side.rt:64:8
 audio-write-requires : tie.Need-audio-write-requires
 audio-write-requires c κs = search needs
 
--- src/cpu_side.rt:65:9
 refuse-requires-2 : tie.Need-refuse-requires-2
 refuse-requires-2 c κs = search needs
 
--- src/cpu_side.rt:65:9
 returns-2 : tie.Need-returns-2
 unfolding cpuWrite
 returns-2 c = rw (← c .before .before .before .before .before .passed .ensures, c .before .before .before .enum-told .given .1, ← c .before .before .audio-write .ensures, c .before .if1 .taken, c .refuse2 .ensures)
 
--- src/cpu_side.rt:67:9
 cpu-write-requires : tie.Need-cpu-write-requires
 cpu-write-requires c κs = range-lengths _ (open-in-range _ _ _ _ _ _ (sym (c .before .before .before .before .before .before .before .before .passed .ensures) ∙ c .before .before .before .before .before .before .enum-told .given .1))
 
--- src/cpu_side.rt:46:1
 same-length : tie.Need-same-length
 same-length c = search needs
 
--- src/cpu_side.rt:46:1
 same-length-2 : tie.Need-same-length-2
 same-length-2 c = search needs
 
--- src/cpu_side.rt:46:1
 same-length-3 : tie.Need-same-length-3
 same-length-3 c = search needs
 
--- src/cpu_side.rt:46:1
 same-length-4 : tie.Need-same-length-4
 same-length-4 c = search needs
 
--- src/cpu_side.rt:46:1
 returns-3 : tie.Need-returns-3
 unfolding cpuWrite
 returns-3 c = rw (← c .before .before .before .before .before .before .before .before .before .before .before .before .before .before .before .before .before .passed .ensures, c .before .before .before .before .before .before .before .before .before .before .before .before .before .before .before .enum-told .given .1, ← c .before .before .before .before .before .before .before .before .before .before .before .before .before .before .audio-write .ensures, c .before .before .before .before .before .before .before .before .before .before .before .before .before .if1 .left, c .before .before .before .before .before .before .before .before .cpu-write .ensures .0) (ap (afterOf _) (c .before .before .before .before .before .before .before .before .cpu-write .ensures .1 _))

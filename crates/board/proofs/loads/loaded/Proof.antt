@@ -1,55 +1,39 @@
-use Rattle.state.proofs.SizeLaws.{lengths-say}
-use Rattle.board.specs.Loads.{loadedState}
+-- Lengths that pass have a last bank and whole pages (`lengths-say`); the rest is what the callees say.
 use native.Mathlib.Omega.{arith}
 use borrow.Author.Needs.{needs}
+use Rattle.board.specs.Loads.{loadedState}
+use Rattle.scanline.proofs.new.Reads as new-reads′
+use Rattle.state.proofs.SizeLaws.{lengths-say}
 use Rattle.board.proofs.loads.loaded.Statement.{statement}
 use Rattle.board.proofs.loads.loaded.Tie as tie
-use Rattle.board.proofs.loads.loaded.Reads as reads
-use Rattle.board.proofs.loads.loaded.Lts as lts
-use Rattle.banks.proofs.chr.map_chr.Reads as map-chr-reads
-use Rattle.banks.proofs.names.map_names.Reads as map-names-reads
-use Rattle.banks.proofs.prg.map_prg.Reads as map-prg-reads
-use Rattle.registers.proofs.new.Reads as new-reads
-use Rattle.scanline.proofs.new.Reads as new-reads′
-use Rattle.split.proofs.control.new.Reads as control-new-reads
 
--- src/loads.rt:74:9
 new-requires : tie.Need-new-requires
 new-requires c κs = search needs
 
--- src/loads.rt:75:17
 sub-last : tie.Need-sub-last
 sub-last c = let t = lengths-say _ (c .before .before .pre) in omega (arith, t .prg-least)
 
--- src/loads.rt:76:40
 cast-t14 : tie.Need-cast-t14
 cast-t14 c = search needs
 
--- src/loads.rt:76:34
 add-t15 : tie.Need-add-t15
 add-t15 c = search needs
 
--- src/loads.rt:79:9
 map-prg-requires : tie.Need-map-prg-requires
 map-prg-requires c κs = let t = lengths-say _ (c .before .before .pre) in (omega (arith, t .prg-whole), t .ram-whole)
 
--- src/loads.rt:81:9
 map-chr-requires : tie.Need-map-chr-requires
 map-chr-requires c κs = search needs
 
--- src/loads.rt:82:9
 map-names-requires : tie.Need-map-names-requires
 map-names-requires c κs = search needs
 
--- src/loads.rt:86:17
 new-requires-2 : tie.Need-new-requires-2
 new-requires-2 c κs = search needs
 
--- src/loads.rt:87:14
 new-requires-3 : tie.Need-new-requires-3
 new-requires-3 c κs = search needs
 
--- src/loads.rt:70:1
 returns : tie.Need-returns
 unfolding loadedState
 returns c = rw (c .new3 .ensures, c .before .new2 .ensures, c .before .before .map-names .ensures, c .before .before .before .map-chr .ensures, c .before .before .before .before .map-prg .ensures, c .before .before .before .before .before .before .new .ensures)

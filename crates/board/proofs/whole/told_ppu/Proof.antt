@@ -1,32 +1,25 @@
-use Rattle.board.specs.Whole.{toldPpu}
-use borrow.Author.Tests.{eq-eqb, ne-eqb, not-false}
+-- Each `return` stands behind the tests of the addresses before it.
 use borrow.Author.Needs.{needs}
+use borrow.Author.Tests.{eq-eqb, ne-eqb}
+use Rattle.board.specs.Whole.{toldPpu}
 use Rattle.board.proofs.whole.told_ppu.Statement.{statement}
 use Rattle.board.proofs.whole.told_ppu.Tie as tie
-use Rattle.board.proofs.whole.told_ppu.Reads as reads
-use Rattle.board.proofs.whole.told_ppu.Lts as lts
-use Rattle.scanline.proofs.darkened.Reads as darkened-reads
 
--- src/whole.rt:78:9
 returns : tie.Need-returns
 unfolding toldPpu
 returns c = rw (eq-eqb _ _ (c .before .if1 .taken))
 
--- src/whole.rt:81:9
 returns-2 : tie.Need-returns-2
 unfolding toldPpu
 returns-2 c = rw (ne-eqb _ _ (c .before .if1 .left), ne-eqb _ _ (c .if2 .taken))
 
--- src/whole.rt:87:13
 darkened-requires : tie.Need-darkened-requires
 darkened-requires c κs = search needs
 
--- src/whole.rt:89:9
 returns-3 : tie.Need-returns-3
 unfolding toldPpu
 returns-3 c = rw (ne-eqb _ _ (c .before .before .before .before .if1 .left), eq-eqb _ _ (c .before .before .before .if2 .left), c .before .if3 .taken, c .darkened .ensures)
 
--- src/whole.rt:71:1
 returns-4 : tie.Need-returns-4
 unfolding toldPpu
 returns-4 c = rw (ne-eqb _ _ (c .before .before .before .if1 .left), eq-eqb _ _ (c .before .before .if2 .left), c .if3 .left)

@@ -1,49 +1,37 @@
-use Rattle.cpu.specs.Chosen.{ppuAfter}
-use borrow.Author.Tests.{eq-eqb, ne-eqb}
+-- Each `return` stands behind the tests of the addresses before it.
 use borrow.Author.Needs.{needs}
+use borrow.Author.Tests.{eq-eqb, ne-eqb}
+use Rattle.cpu.specs.Chosen.{ppuAfter}
 use Rattle.cpu.proofs.chosen.ppu_after.Statement.{statement}
 use Rattle.cpu.proofs.chosen.ppu_after.Tie as tie
-use Rattle.cpu.proofs.chosen.ppu_after.Reads as reads
-use Rattle.cpu.proofs.chosen.ppu_after.Lts as lts
-use Rattle.cpu.proofs.chosen.choose.Reads as choose-reads
-use Rattle.cpu.proofs.groups.is_within.Reads as is-within-reads
 
--- src/chosen.rt:24:9
 choose-requires : tie.Need-choose-requires
 choose-requires c κs = search needs
 
--- src/chosen.rt:24:9
 returns : tie.Need-returns
 unfolding ppuAfter
 returns c = rw (eq-eqb _ _ (c .before .if1 .taken)) (c .choose .ensures)
 
--- src/chosen.rt:27:8
 is-within-requires : tie.Need-is-within-requires
 is-within-requires c κs = search needs
 
--- src/chosen.rt:29:9
 choose-requires-2 : tie.Need-choose-requires-2
 choose-requires-2 c κs = search needs
 
--- src/chosen.rt:29:9
 returns-2 : tie.Need-returns-2
 unfolding ppuAfter
 returns-2 c = rw (ne-eqb _ _ (c .before .before .before .if1 .left), ← c .before .before .is-within .ensures, c .before .if2 .taken) (c .choose2 .ensures)
 
--- src/chosen.rt:31:8
 is-within-requires-2 : tie.Need-is-within-requires-2
 is-within-requires-2 c κs = search needs
 
--- src/chosen.rt:33:9
 choose-requires-3 : tie.Need-choose-requires-3
 choose-requires-3 c κs = search needs
 
--- src/chosen.rt:33:9
 returns-3 : tie.Need-returns-3
 unfolding ppuAfter
 returns-3 c = rw (ne-eqb _ _ (c .before .before .before .before .before .if1 .left), ← c .before .before .before .before .is-within .ensures, c .before .before .before .if2 .left, ← c .before .before .is-within2 .ensures, c .before .if3 .taken) (c .choose3 .ensures)
 
--- src/chosen.rt:20:1
 returns-4 : tie.Need-returns-4
 unfolding ppuAfter
 returns-4 c = rw (ne-eqb _ _ (c .before .before .before .before .if1 .left), ← c .before .before .before .is-within .ensures, c .before .before .if2 .left, ← c .before .is-within2 .ensures, c .if3 .left)

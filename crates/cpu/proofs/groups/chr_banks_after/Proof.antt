@@ -1,81 +1,66 @@
+-- The indices are in the array since the address is in the window (`from`, `upto`).
+use Prim.Native.Nat.{_≤_}
+use mathlib.Core.Path.{sym, _∙_}
+use native.Mathlib.Omega.{arith}
+use borrow.Author.Needs.{needs}
 use Rattle.cpu.specs.Groups.{chrBanksAfter}
 use Rattle.cpu.proofs.Addresses.{from, upto}
-use native.Mathlib.Omega.{arith}
-use mathlib.Core.Path.{_≡_, sym, _∙_}
-use Prim.Native.Nat.{_≤_}
-use borrow.Author.Needs.{needs}
 use Rattle.cpu.proofs.groups.chr_banks_after.Statement.{statement}
 use Rattle.cpu.proofs.groups.chr_banks_after.Tie as tie
-use Rattle.cpu.proofs.groups.chr_banks_after.Reads as reads
-use Rattle.cpu.proofs.groups.chr_banks_after.Lts as lts
-use Rattle.cpu.proofs.groups.is_within.Reads as is-within-reads
 
--- src/groups.rt:52:8
 is-within-requires : tie.Need-is-within-requires
 is-within-requires c κs = search needs
 
--- src/groups.rt:53:19
 sub-at : tie.Need-sub-at
-sub-at c = 
+sub-at c =
     let lo : 0x5120 ≤ c .before .before .args .addr = from 0x5120 0x5127 _ (sym (c .before .is-within .ensures) ∙ c .if1 .taken) in
     let hi : c .before .before .args .addr ≤ 0x5127 = upto 0x5120 0x5127 _ (sym (c .before .is-within .ensures) ∙ c .if1 .taken) in
     omega arith
 
--- src/groups.rt:53:18
 cast-at : tie.Need-cast-at
 cast-at c = search needs
 
--- src/groups.rt:54:9
 array-write-next : tie.Need-array-write-next
-array-write-next c = 
+array-write-next c =
     let lo : 0x5120 ≤ c .before .before .args .addr = from 0x5120 0x5127 _ (sym (c .before .is-within .ensures) ∙ c .if1 .taken) in
     let hi : c .before .before .args .addr ≤ 0x5127 = upto 0x5120 0x5127 _ (sym (c .before .is-within .ensures) ∙ c .if1 .taken) in
     omega arith
 
--- src/groups.rt:55:9
 returns : tie.Need-returns
 unfolding chrBanksAfter
 returns c = rw (← c .before .is-within .ensures, c .if1 .taken)
 
--- src/groups.rt:57:8
 is-within-requires-2 : tie.Need-is-within-requires-2
 is-within-requires-2 c κs = search needs
 
--- src/groups.rt:58:19
 sub-at-2 : tie.Need-sub-at-2
-sub-at-2 c = 
+sub-at-2 c =
     let lo : 0x5128 ≤ c .before .before .before .before .args .addr = from 0x5128 0x512B _ (sym (c .before .is-within2 .ensures) ∙ c .if2 .taken) in
     let hi : c .before .before .before .before .args .addr ≤ 0x512B = upto 0x5128 0x512B _ (sym (c .before .is-within2 .ensures) ∙ c .if2 .taken) in
     omega arith
 
--- src/groups.rt:58:18
 cast-at-2 : tie.Need-cast-at-2
 cast-at-2 c = search needs
 
--- src/groups.rt:59:9
 array-write-next-2 : tie.Need-array-write-next-2
-array-write-next-2 c = 
+array-write-next-2 c =
     let lo : 0x5128 ≤ c .before .before .before .before .args .addr = from 0x5128 0x512B _ (sym (c .before .is-within2 .ensures) ∙ c .if2 .taken) in
     let hi : c .before .before .before .before .args .addr ≤ 0x512B = upto 0x5128 0x512B _ (sym (c .before .is-within2 .ensures) ∙ c .if2 .taken) in
     omega arith
 
--- src/groups.rt:60:14
 add-next : tie.Need-add-next
 add-next c = search needs
 
--- src/groups.rt:60:9
 array-write-next-3 : tie.Need-array-write-next-3
-array-write-next-3 c = 
+array-write-next-3 c =
     let lo : 0x5128 ≤ c .before .before .before .before .args .addr = from 0x5128 0x512B _ (sym (c .before .is-within2 .ensures) ∙ c .if2 .taken) in
     let hi : c .before .before .before .before .args .addr ≤ 0x512B = upto 0x5128 0x512B _ (sym (c .before .is-within2 .ensures) ∙ c .if2 .taken) in
     omega arith
 
--- src/groups.rt:61:9
 returns-2 : tie.Need-returns-2
 unfolding chrBanksAfter
 returns-2 c = rw (← c .before .before .before .is-within .ensures, c .before .before .if1 .left, ← c .before .is-within2 .ensures, c .if2 .taken)
 
--- src/groups.rt:48:1
 returns-3 : tie.Need-returns-3
 unfolding chrBanksAfter
 returns-3 c = rw (← c .before .before .before .is-within .ensures, c .before .before .if1 .left, ← c .before .is-within2 .ensures, c .if2 .left)

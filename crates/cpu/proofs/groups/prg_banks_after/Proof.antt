@@ -1,43 +1,35 @@
+-- The index is in the array since the address is in the window (`from`, `upto`).
+use Prim.Native.Nat.{_≤_}
+use mathlib.Core.Path.{sym, _∙_}
+use native.Mathlib.Omega.{arith}
+use borrow.Author.Needs.{needs}
 use Rattle.cpu.specs.Groups.{prgBanksAfter}
 use Rattle.cpu.proofs.Addresses.{from, upto}
-use native.Mathlib.Omega.{arith}
-use mathlib.Core.Path.{_≡_, sym, _∙_}
-use Prim.Native.Nat.{_≤_}
-use borrow.Author.Needs.{needs}
 use Rattle.cpu.proofs.groups.prg_banks_after.Statement.{statement}
 use Rattle.cpu.proofs.groups.prg_banks_after.Tie as tie
-use Rattle.cpu.proofs.groups.prg_banks_after.Reads as reads
-use Rattle.cpu.proofs.groups.prg_banks_after.Lts as lts
-use Rattle.cpu.proofs.groups.is_within.Reads as is-within-reads
 
--- src/groups.rt:39:8
 is-within-requires : tie.Need-is-within-requires
 is-within-requires c κs = search needs
 
--- src/groups.rt:40:19
 sub-at : tie.Need-sub-at
-sub-at c = 
+sub-at c =
     let lo : 0x5113 ≤ c .before .before .args .addr = from 0x5113 0x5117 _ (sym (c .before .is-within .ensures) ∙ c .if1 .taken) in
     let hi : c .before .before .args .addr ≤ 0x5117 = upto 0x5113 0x5117 _ (sym (c .before .is-within .ensures) ∙ c .if1 .taken) in
     omega arith
 
--- src/groups.rt:40:18
 cast-at : tie.Need-cast-at
 cast-at c = search needs
 
--- src/groups.rt:41:9
 array-write-next : tie.Need-array-write-next
-array-write-next c = 
+array-write-next c =
     let lo : 0x5113 ≤ c .before .before .args .addr = from 0x5113 0x5117 _ (sym (c .before .is-within .ensures) ∙ c .if1 .taken) in
     let hi : c .before .before .args .addr ≤ 0x5117 = upto 0x5113 0x5117 _ (sym (c .before .is-within .ensures) ∙ c .if1 .taken) in
     omega arith
 
--- src/groups.rt:42:9
 returns : tie.Need-returns
 unfolding prgBanksAfter
 returns c = rw (← c .before .is-within .ensures, c .if1 .taken)
 
--- src/groups.rt:35:1
 returns-2 : tie.Need-returns-2
 unfolding prgBanksAfter
 returns-2 c = rw (← c .before .is-within .ensures, c .if1 .left)

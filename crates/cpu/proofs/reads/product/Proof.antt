@@ -1,16 +1,13 @@
+-- A product of two bytes fits sixteen bits.
 use native.Mathlib.Nat.{mul-le-mul}
 use native.Mathlib.Omega.{arith}
 use borrow.Author.Needs.{needs}
 use Rattle.cpu.proofs.reads.product.Statement.{statement}
 use Rattle.cpu.proofs.reads.product.Tie as tie
-use Rattle.cpu.proofs.reads.product.Reads as reads
-use Rattle.cpu.proofs.reads.product.Lts as lts
 
--- src/reads.rt:43:5
 mul-result : tie.Need-mul-result
 mul-result c = omega (arith, mul-le-mul {n₁ = c .args .a} {m₁ = c .args .b} {n₂ = 255} {m₂ = 255} (omega arith) (omega arith))
 
--- src/reads.rt:40:1
 returns : tie.Need-returns
 returns c = search needs
 

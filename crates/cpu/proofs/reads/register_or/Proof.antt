@@ -1,163 +1,129 @@
+-- Each arm has one address; the last has none of them.
+use Prim.Native.Nat.{_≤_}
+use mathlib.Core.Path.{sym, _∙_}
+use native.Mathlib.Omega.{arith}
+use borrow.Author.Needs.{needs}
+use borrow.Author.Tests.{ne-eqb}
 use Rattle.cpu.specs.Reads.{registerRead}
 use Rattle.cpu.proofs.Addresses.{from, upto}
-use borrow.Author.Tests.{eq-eqb, ne-eqb}
-use native.Mathlib.Omega.{arith}
-use mathlib.Core.Path.{_≡_, sym, _∙_}
-use Prim.Native.Nat.{_≤_}
-use borrow.Author.Needs.{needs}
 use Rattle.cpu.proofs.reads.register_or.Statement.{statement}
 use Rattle.cpu.proofs.reads.register_or.Tie as tie
-use Rattle.cpu.proofs.reads.register_or.Reads as reads
-use Rattle.cpu.proofs.reads.register_or.Lts as lts
-use Rattle.cpu.proofs.groups.is_within.Reads as is-within-reads
-use Rattle.cpu.proofs.reads.product.Reads as product-reads
-use Rattle.scanline.proofs.status.Reads as status-reads
 
--- src/reads.rt:58:8
 is-within-requires : tie.Need-is-within-requires
 is-within-requires c κs = search needs
 
--- src/reads.rt:59:19
 sub-at : tie.Need-sub-at
-sub-at c = 
+sub-at c =
     let lo : 0x5113 ≤ c .before .before .args .addr = from 0x5113 0x5117 _ (sym (c .before .is-within .ensures) ∙ c .if1 .taken) in
     let hi : c .before .before .args .addr ≤ 0x5117 = upto 0x5113 0x5117 _ (sym (c .before .is-within .ensures) ∙ c .if1 .taken) in
     omega arith
 
--- src/reads.rt:59:18
 cast-at : tie.Need-cast-at
 cast-at c = search needs
 
--- src/reads.rt:60:33
 array-read-t16 : tie.Need-array-read-t16
-array-read-t16 c = 
+array-read-t16 c =
     let lo : 0x5113 ≤ c .before .before .args .addr = from 0x5113 0x5117 _ (sym (c .before .is-within .ensures) ∙ c .if1 .taken) in
     let hi : c .before .before .args .addr ≤ 0x5117 = upto 0x5113 0x5117 _ (sym (c .before .is-within .ensures) ∙ c .if1 .taken) in
     omega arith
 
--- src/reads.rt:60:9
 returns : tie.Need-returns
 unfolding registerRead
 returns c = rw (← c .before .is-within .ensures, c .if1 .taken)
 
--- src/reads.rt:62:8
 is-within-requires-2 : tie.Need-is-within-requires-2
 is-within-requires-2 c κs = search needs
 
--- src/reads.rt:63:19
 sub-at-2 : tie.Need-sub-at-2
-sub-at-2 c = 
+sub-at-2 c =
     let lo : 0x5120 ≤ c .before .before .before .before .args .addr = from 0x5120 0x512B _ (sym (c .before .is-within2 .ensures) ∙ c .if2 .taken) in
     let hi : c .before .before .before .before .args .addr ≤ 0x512B = upto 0x5120 0x512B _ (sym (c .before .is-within2 .ensures) ∙ c .if2 .taken) in
     omega arith
 
--- src/reads.rt:63:18
 cast-at-2 : tie.Need-cast-at-2
 cast-at-2 c = search needs
 
--- src/reads.rt:64:33
 array-read-t21 : tie.Need-array-read-t21
-array-read-t21 c = 
+array-read-t21 c =
     let lo : 0x5120 ≤ c .before .before .before .before .args .addr = from 0x5120 0x512B _ (sym (c .before .is-within2 .ensures) ∙ c .if2 .taken) in
     let hi : c .before .before .before .before .args .addr ≤ 0x512B = upto 0x5120 0x512B _ (sym (c .before .is-within2 .ensures) ∙ c .if2 .taken) in
     omega arith
 
--- src/reads.rt:64:9
 returns-2 : tie.Need-returns-2
 unfolding registerRead
 returns-2 c = rw (← c .before .before .before .is-within .ensures, c .before .before .if1 .left, ← c .before .is-within2 .ensures, c .if2 .taken)
 
--- src/reads.rt:78:36
 status-requires : tie.Need-status-requires
 status-requires c κs = search needs
 
--- src/reads.rt:79:37
 product-requires : tie.Need-product-requires
 product-requires c κs = search needs
 
--- src/reads.rt:79:36
 cast-t26 : tie.Need-cast-t26
 cast-t26 c = search needs
 
--- src/reads.rt:80:37
 product-requires-2 : tie.Need-product-requires-2
 product-requires-2 c κs = search needs
 
--- src/reads.rt:80:36
 cast-t29 : tie.Need-cast-t29
 cast-t29 c = search needs
 
--- src/reads.rt:47:1
 returns-3 : tie.Need-returns-3
 unfolding registerRead
 returns-3 c = rw (c .match .keys1)
 
--- src/reads.rt:47:1
 returns-4 : tie.Need-returns-4
 unfolding registerRead
 returns-4 c = rw (c .match .keys2)
 
--- src/reads.rt:47:1
 returns-5 : tie.Need-returns-5
 unfolding registerRead
 returns-5 c = rw (c .match .keys3)
 
--- src/reads.rt:47:1
 returns-6 : tie.Need-returns-6
 unfolding registerRead
 returns-6 c = rw (c .match .keys4)
 
--- src/reads.rt:47:1
 returns-7 : tie.Need-returns-7
 unfolding registerRead
 returns-7 c = rw (c .match .keys5)
 
--- src/reads.rt:47:1
 returns-8 : tie.Need-returns-8
 unfolding registerRead
 returns-8 c = rw (c .match .keys6)
 
--- src/reads.rt:47:1
 returns-9 : tie.Need-returns-9
 unfolding registerRead
 returns-9 c = rw (c .match .keys7)
 
--- src/reads.rt:47:1
 returns-10 : tie.Need-returns-10
 unfolding registerRead
 returns-10 c = rw (c .match .keys8)
 
--- src/reads.rt:47:1
 returns-11 : tie.Need-returns-11
 unfolding registerRead
 returns-11 c = rw (c .match .keys9)
 
--- src/reads.rt:47:1
 returns-12 : tie.Need-returns-12
 unfolding registerRead
 returns-12 c = rw (c .match .keys10)
 
--- src/reads.rt:47:1
 returns-13 : tie.Need-returns-13
 unfolding registerRead
 returns-13 c = rw (c .match .keys11)
 
--- src/reads.rt:47:1
 returns-14 : tie.Need-returns-14
 unfolding registerRead
 returns-14 c = rw (c .before .match .keys12, c .status .ensures)
 
--- src/reads.rt:47:1
 returns-15 : tie.Need-returns-15
 unfolding registerRead
 returns-15 c = rw (c .before .match .keys13, c .product .ensures)
 
--- src/reads.rt:47:1
 returns-16 : tie.Need-returns-16
 unfolding registerRead
 returns-16 c = rw (c .before .match .keys14, c .product2 .ensures)
 
--- src/reads.rt:47:1
 returns-17 : tie.Need-returns-17
 unfolding registerRead
 returns-17 c = simp (← c .before .before .before .before .is-within .ensures, c .before .before .before .if1 .left, ← c .before .before .is-within2 .ensures, c .before .if2 .left, ne-eqb _ _ (c .match .rest .0 .0 .0 .0 .0 .0 .0 .0 .0 .0 .0 .0 .0 .1), ne-eqb _ _ (c .match .rest .0 .0 .0 .0 .0 .0 .0 .0 .0 .0 .0 .0 .1), ne-eqb _ _ (c .match .rest .0 .0 .0 .0 .0 .0 .0 .0 .0 .0 .0 .1), ne-eqb _ _ (c .match .rest .0 .0 .0 .0 .0 .0 .0 .0 .0 .0 .1), ne-eqb _ _ (c .match .rest .0 .0 .0 .0 .0 .0 .0 .0 .0 .1), ne-eqb _ _ (c .match .rest .0 .0 .0 .0 .0 .0 .0 .0 .1), ne-eqb _ _ (c .match .rest .0 .0 .0 .0 .0 .0 .0 .1), ne-eqb _ _ (c .match .rest .0 .0 .0 .0 .0 .0 .1), ne-eqb _ _ (c .match .rest .0 .0 .0 .0 .0 .1), ne-eqb _ _ (c .match .rest .0 .0 .0 .0 .1), ne-eqb _ _ (c .match .rest .0 .0 .0 .1), ne-eqb _ _ (c .match .rest .0 .0 .1), ne-eqb _ _ (c .match .rest .0 .1), ne-eqb _ _ (c .match .rest .1))

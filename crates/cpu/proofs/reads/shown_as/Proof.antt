@@ -1,54 +1,41 @@
+-- Each arm is a source.
 use borrow.Author.Needs.{needs}
 use Rattle.cpu.proofs.reads.shown_as.Statement.{statement}
 use Rattle.cpu.proofs.reads.shown_as.Tie as tie
-use Rattle.cpu.proofs.reads.shown_as.Reads as reads
-use Rattle.cpu.proofs.reads.shown_as.Lts as lts
 
--- src/reads.rt:20:23
 enum-told : tie.Need-enum-told
 enum-told c = search needs
 
--- src/reads.rt:21:24
 enum-told-2 : tie.Need-enum-told-2
 enum-told-2 c = search needs
 
--- src/reads.rt:22:24
 enum-told-3 : tie.Need-enum-told-3
 enum-told-3 c = search needs
 
--- src/reads.rt:23:21
 enum-told-4 : tie.Need-enum-told-4
 enum-told-4 c = search needs
 
--- src/reads.rt:24:23
 enum-told-5 : tie.Need-enum-told-5
 enum-told-5 c = search needs
 
--- src/reads.rt:25:23
 enum-told-6 : tie.Need-enum-told-6
 enum-told-6 c = search needs
 
--- src/reads.rt:16:1
 returns : tie.Need-returns
 returns c = search needs
 
--- src/reads.rt:16:1
 returns-2 : tie.Need-returns-2
 returns-2 c = rw (c .enum-told2 .given .1)
 
--- src/reads.rt:16:1
 returns-3 : tie.Need-returns-3
 returns-3 c = rw (c .enum-told3 .given .1)
 
--- src/reads.rt:16:1
 returns-4 : tie.Need-returns-4
 returns-4 c = rw (c .enum-told4 .given .1)
 
--- src/reads.rt:16:1
 returns-5 : tie.Need-returns-5
 returns-5 c = rw (c .enum-told5 .given .1)
 
--- src/reads.rt:16:1
 returns-6 : tie.Need-returns-6
 returns-6 c = rw (c .enum-told6 .given .1)
 

@@ -1,19 +1,14 @@
+-- By what `is_within` says.
 use borrow.Author.Needs.{needs}
 use Rattle.cpu.proofs.writes.maps_prg.Statement.{statement}
 use Rattle.cpu.proofs.writes.maps_prg.Tie as tie
-use Rattle.cpu.proofs.writes.maps_prg.Reads as reads
-use Rattle.cpu.proofs.writes.maps_prg.Lts as lts
-use Rattle.cpu.proofs.groups.is_within.Reads as is-within-reads
 
--- src/writes.rt:21:25
 is-within-requires : tie.Need-is-within-requires
 is-within-requires c κs = search needs
 
--- src/writes.rt:21:67
 is-within-requires-2 : tie.Need-is-within-requires-2
 is-within-requires-2 c κs = search needs
 
--- src/writes.rt:18:1
 returns : tie.Need-returns
 returns c = rw (c .is-within2 .ensures, c .before .is-within .ensures)
 

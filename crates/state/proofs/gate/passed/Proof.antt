@@ -1,36 +1,27 @@
-use Rattle.state.specs.Gate.{gateOf}
+-- Each `return` stands behind the tests before it.
 use borrow.Author.Needs.{needs}
+use Rattle.state.specs.Gate.{gateOf}
 use Rattle.state.proofs.gate.passed.Statement.{statement}
 use Rattle.state.proofs.gate.passed.Tie as tie
-use Rattle.state.proofs.gate.passed.Reads as reads
-use Rattle.state.proofs.gate.passed.Lts as lts
-use Rattle.state.proofs.gate.same_lengths.Reads as same-lengths-reads
-use Rattle.state.proofs.ranges.in_range.Reads as in-range-reads
 
--- src/gate.rt:29:9
 returns : tie.Need-returns
 unfolding gateOf
 returns c = rw (c .if1 .taken)
 
--- src/gate.rt:31:9
 same-lengths-requires : tie.Need-same-lengths-requires
 same-lengths-requires c κs = search needs
 
--- src/gate.rt:33:9
 returns-2 : tie.Need-returns-2
 unfolding gateOf
 returns-2 c = rw (c .before .before .if1 .left, ← c .before .same-lengths .ensures, c .if2 .taken)
 
--- src/gate.rt:35:9
 in-range-requires : tie.Need-in-range-requires
 in-range-requires c κs = search needs
 
--- src/gate.rt:37:9
 returns-3 : tie.Need-returns-3
 unfolding gateOf
 returns-3 c = rw (c .before .before .before .before .if1 .left, ← c .before .before .before .same-lengths .ensures, c .before .before .if2 .left, ← c .before .in-range .ensures, c .if3 .taken)
 
--- src/gate.rt:24:1
 returns-4 : tie.Need-returns-4
 unfolding gateOf
 returns-4 c = rw (c .before .before .before .before .if1 .left, ← c .before .before .before .same-lengths .ensures, c .before .before .if2 .left, ← c .before .in-range .ensures, c .if3 .left)

@@ -1,0 +1,4 @@
+pub mod Mapped
+pub mod Calls
+pub mod Gates
+pub mod Refusals

@@ -1,0 +1,81 @@
+-- Who is refused: behind an open gate only audio registers are.
+use Prim.Native.Nat.{ℕ}
+use mathlib.Core.Bool.{Bool, true, false, not}
+use mathlib.Core.Path.{_≡_, refl, sym, ap, _∙_}
+use lib.Dec.{eqb}
+use Rattle.memory.specs.declared.Page.{Page}
+use Rattle.memory.specs.declared.Src.{Src}
+use Rattle.memory.specs.declared.Src.the-variants.{Blank, PrgRom, PrgRam, Chr, CiRam, ExRam}
+use Rattle.memory.specs.Bytes.{Mem, pageByte}
+use Rattle.memory.specs.Words.{pick, pageOf}
+use Rattle.memory.proofs.Tests.{split, pick-keeps}
+use Rattle.answers.specs.declared.Answer.{Answer}
+use Rattle.answers.specs.declared.Answer.the-variants.{Nothing, Refused}
+use Rattle.answers.specs.declared.Refusal.{Refusal}
+use Rattle.answers.specs.declared.Refusal.the-variants.{Audio}
+use Rattle.state.specs.declared.gate.Gate.{Gate}
+use Rattle.state.specs.declared.gate.Gate.the-variants.{Open, Shut}
+use Rattle.state.specs.declared.State.{State}
+use Rattle.state.specs.Gate.{gateMem}
+use Rattle.cpu.specs.Groups.{within}
+use Rattle.cpu.specs.Reads.{shownAs, pageAnswer, registerRead, cpuAnswer, audioRead}
+use Rattle.cpu.specs.Writes.{prgWordAt, audioWrite}
+use Rattle.board.specs.CpuSide.{cpuRead, cpuPeek, cpuWrite}
+use Rattle.board.specs.Outcomes.{outcome, refused, behind}
+use Rattle.board.specs.Whole.{resetCall, clockCall, ppuRegisterCall}
+use Rattle.promises.specs.Refused.{isRefused, WhoIsRefused}
+use Rattle.promises.proofs.Gates.{in-range-of}
+
+abbrev Given : Answer → Type 0
+Given a = isRefused a ≡ false
+
+shown-is-given : (s : Src) (v : ℕ) → Given (shownAs s v)
+shown-is-given Blank v = refl
+shown-is-given PrgRom v = refl
+shown-is-given PrgRam v = refl
+shown-is-given Chr v = refl
+shown-is-given CiRam v = refl
+shown-is-given ExRam v = refl
+
+-- A register, or the page: never a refusal.
+answer-is-given : (s : State) (m : Mem) (a : ℕ) → Given (cpuAnswer s m a)
+unfolding cpuAnswer registerRead pageAnswer
+answer-is-given s m a =
+    pick-keeps Given (within 0x5113 0x5117 a) refl
+    (pick-keeps Given (within 0x5120 0x512B a) refl
+    (pick-keeps Given (eqb a 0x5100) refl
+    (pick-keeps Given (eqb a 0x5101) refl
+    (pick-keeps Given (eqb a 0x5104) refl
+    (pick-keeps Given (eqb a 0x5105) refl
+    (pick-keeps Given (eqb a 0x5106) refl
+    (pick-keeps Given (eqb a 0x5107) refl
+    (pick-keeps Given (eqb a 0x5130) refl
+    (pick-keeps Given (eqb a 0x5200) refl
+    (pick-keeps Given (eqb a 0x5201) refl
+    (pick-keeps Given (eqb a 0x5202) refl
+    (pick-keeps Given (eqb a 0x5203) refl
+    (pick-keeps Given (eqb a 0x5204) refl
+    (pick-keeps Given (eqb a 0x5205) refl
+    (pick-keeps Given (eqb a 0x5206) refl
+    (shown-is-given (pageOf (prgWordAt (s .«prg_pages») a) .src) (pageByte m (pageOf (prgWordAt (s .«prg_pages») a)) a)))))))))))))))))
+
+-- A peek answers as the read does, at an open gate and at a shut one.
+same-behind : (g : Gate) (s : State) (b : Bool) (x : Answer) (t : State)
+    → behind g Refused (pick b (Refused Audio) x) ≡ behind g (refused s) (pick b (refused s Audio) (outcome x t)) .answer
+same-behind Open s true x t = refl
+same-behind Open s false x t = refl
+same-behind (Shut r) s b x t = refl
+
+pub who-is-refused : WhoIsRefused
+unfolding cpuRead cpuPeek cpuWrite resetCall clockCall ppuRegisterCall
+who-is-refused =
+    record {
+      read-audio = λ s m a h e. rw (h, e);
+      read-else = λ s m a h e. rw (h, e) (answer-is-given s m a);
+      peek = λ s m a. same-behind (gateMem s m) s (audioRead a) (cpuAnswer s m a) _;
+      write-audio = λ s m a v h e. rw (h, e);
+      write-else = λ s m a v h e. rw (h, e);
+      reset = λ s m h. rw (in-range-of s m h);
+      clock = λ s m h. rw (in-range-of s m h);
+      register = λ s m a v h. rw (in-range-of s m h);
+    }

@@ -1,0 +1,10 @@
+-- The promise is `gate-stays-open` of `Gates.antt`.
+use Rattle.promises.proofs.Gates.{gate-stays-open}
+use Rattle.promises.proofs.gate_stays_open.Statement.{statement}
+use Rattle.promises.proofs.gate_stays_open.Tie as tie
+
+returns : tie.Need-returns
+returns c = gate-stays-open
+
+pub gate-stays-open-spec : {M : Type 1} → statement M
+gate-stays-open-spec = tie.close (tie.spec returns)

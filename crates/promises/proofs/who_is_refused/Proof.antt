@@ -1,0 +1,10 @@
+-- The promise is `who-is-refused` of `Refusals.antt`.
+use Rattle.promises.proofs.Refusals.{who-is-refused}
+use Rattle.promises.proofs.who_is_refused.Statement.{statement}
+use Rattle.promises.proofs.who_is_refused.Tie as tie
+
+returns : tie.Need-returns
+returns c = who-is-refused
+
+pub who-is-refused-spec : {M : Type 1} → statement M
+who-is-refused-spec = tie.close (tie.spec returns)

@@ -1,0 +1,25 @@
+-- Demand 1, of accepted calls: from a state in range with buffers of the recorded lengths, every call leaves a state in range and buffers of
+-- the recorded lengths. So a board that serves its first call and then refuses all is shut out. For load: an accepted one is such a start.
+use Prim.Native.Nat.{ℕ}
+use mathlib.Core.Bool.{Bool, true}
+use mathlib.Core.Path.{_≡_}
+use Rattle.memory.specs.Bytes.{Mem}
+use Rattle.answers.specs.declared.Answer.the-variants.{Nothing}
+use Rattle.registers.specs.declared.Mirroring.{Mirroring}
+use Rattle.state.specs.declared.gate.Gate.the-variants.{Open}
+use Rattle.state.specs.declared.State.{State}
+use Rattle.state.specs.Gate.{gateMem}
+use Rattle.state.specs.Ranges.{inRange}
+use Rattle.board.specs.CpuSide.{cpuRead, cpuWrite}
+use Rattle.board.specs.Loads.{loadCall}
+use Rattle.board.specs.Whole.{resetCall, clockCall, ppuRegisterCall}
+
+pub record GateStaysOpen : Type 0 where
+  pub load : (m : Mem) (asRam : Bool) (mirroring : Mirroring) → loadCall m asRam mirroring .answer ≡ Nothing → gateMem (loadCall m asRam mirroring .state) m ≡ Open
+  pub read : (s : State) (m : Mem) (a : ℕ) → gateMem s m ≡ Open → gateMem (cpuRead s m a .state) m ≡ Open
+  pub write : (s : State) (m : Mem) (a v : ℕ) → gateMem s m ≡ Open → gateMem (cpuWrite s m a v .out .state) (cpuWrite s m a v .mem) ≡ Open
+  pub reset : (s : State) (m : Mem) → gateMem s m ≡ Open → gateMem (resetCall s .state) m ≡ Open
+  pub clock : (s : State) (m : Mem) → gateMem s m ≡ Open → gateMem (clockCall s .state) m ≡ Open
+  pub register : (s : State) (m : Mem) (a v : ℕ) → gateMem s m ≡ Open → gateMem (ppuRegisterCall s a v .state) m ≡ Open
+  -- the calls on the state alone ask what the gate asks
+  pub ranged : (s : State) (m : Mem) → gateMem s m ≡ Open → inRange s ≡ true

@@ -1,0 +1,13 @@
+// No code that runs: each function's contract holds what is promised, so that a proof that goes missing fails the check.
+ghost use Rattle.promises.specs.Kept.{GateStaysOpen};
+ghost use Rattle.promises.specs.Refused.{WhoIsRefused};
+
+// An accepted call leads to no refusal 4 or 5.
+pub fn gate_stays_open()
+    ensures { λ _. ⌜ GateStaysOpen ⌝ }
+{}
+
+// Which calls are refused, and with which number.
+pub fn who_is_refused()
+    ensures { λ _. ⌜ WhoIsRefused ⌝ }
+{}
