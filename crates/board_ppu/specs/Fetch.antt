@@ -1,0 +1,73 @@
+-- A PPU fetch. 01, "Fetches, runs, breaks" and rules 5 to 8.
+use Prim.Native.Nat.{ℕ}
+use mathlib.Core.Bool.{Bool, _&&_, _||_, not}
+use mathlib.Core.List.{List}
+use lib.Dec.{ltb}
+use Rattle.memory.specs.declared.PageWord.{PageWord}
+use Rattle.memory.specs.Bytes.{Mem}
+use Rattle.memory.specs.Words.{pick}
+use Rattle.answers.specs.declared.Answer.{Answer}
+use Rattle.answers.specs.declared.Refusal.the-variants.{Counter, Split}
+use Rattle.banks.specs.Chr.{chrMapped}
+use Rattle.cpu.specs.Chosen.{chosen}
+use Rattle.ppu.specs.Fetches.{ppuSeen, splitSeen}
+use Rattle.ppu.specs.Served.{splitServes, nameServed, patternServed}
+use Rattle.scanline.specs.declared.Detector.{Detector}
+use Rattle.scanline.specs.Fetches.{countedAt}
+use Rattle.scanline.specs.Ranges.{counterRefused}
+use Rattle.scanline.specs.Steps.{seenAt}
+use Rattle.split.specs.declared.VSplit.{VSplit}
+use Rattle.split.specs.Control.{splitRefused}
+use Rattle.state.specs.declared.PpuStatus.{PpuStatus}
+use Rattle.state.specs.declared.State.{State}
+use Rattle.state.specs.Gate.{gateMem}
+use Rattle.state.specs.With.{withIrq, withPpu, withVsplit, withChrPages}
+use Rattle.board.specs.declared.Outcome.{Outcome}
+use Rattle.board.specs.Outcomes.{outcome, refused, behind}
+use Rattle.board_ppu.specs.Peeks.{chrAnswer}
+
+-- The groups after a fetch at $2000-$3EFF: the detector, then the tile count and cache, then the split.
+abbrev pub nameIrq : State → ℕ → Detector
+nameIrq s a = seenAt (s .irq) a
+
+abbrev pub namePpu : State → ℕ → PpuStatus
+namePpu s a = ppuSeen (s .regs) (nameIrq s a .«match_count») (s .ppu) a
+
+abbrev pub nameSplit : State → ℕ → VSplit
+nameSplit s a = splitSeen (s .regs) (s .vsplit) (nameIrq s a) (namePpu s a .«tile_number») a
+
+abbrev pub nameState : State → ℕ → State
+nameState s a = withVsplit (withPpu (withIrq s (nameIrq s a)) (namePpu s a)) (nameSplit s a)
+
+-- Refusal 8: "a split fetch would use a tile address above 959"; else the answer, by the groups after the fetch.
+unfoldable pub nameCall : State → Mem → ℕ → Outcome
+nameCall s m a =
+    pick (splitServes (s .regs) (nameSplit s a) (nameIrq s a .«in_frame») && splitRefused (nameSplit s a)) (refused s Split)
+    (outcome (nameServed (s .regs) (nameSplit s a) (nameIrq s a .«in_frame») (namePpu s a) (m .exram) a (chrAnswer (s .«chr_pages») m a)) (nameState s a))
+
+-- Rule 5: "A pattern fetch chooses first, mapping only on a change".
+abbrev pub setChanged : Bool → Bool → Bool
+setChanged before after = (before && not after) || (not before && after)
+
+unfoldable pub patternPages : State → Bool → List PageWord
+patternPages s bg =
+    pick (setChanged (s .ppu .«bg_set») bg) (chrMapped (s .lengths .chr) (s .lengths .«chr_writable») (s .regs) (s .«chr_banks») bg (s .«chr_pages»)) (s .«chr_pages»)
+
+abbrev pub patternPpu : State → PpuStatus
+patternPpu s = chosen (s .ppu) (s .irq .«in_frame»)
+
+abbrev pub patternState : State → State
+patternState s = withChrPages (withPpu s (patternPpu s)) (patternPages s (patternPpu s .«bg_set»))
+
+unfoldable pub patternCall : State → Mem → ℕ → Outcome
+patternCall s m a =
+    outcome (patternServed (s .regs) (s .vsplit) (s .irq) (patternPpu s) (m .exram) (m .chr) a (chrAnswer (patternPages s (patternPpu s .«bg_set»)) m a)) (patternState s)
+
+-- Refusal 7 comes before 8; "from $3F00 on only the page answers".
+unfoldable pub ppuFetch : State → Mem → ℕ → Outcome
+ppuFetch s m a =
+    behind (gateMem s m) (refused s)
+    (pick (counterRefused (s .irq) (s .ppu .«tile_number») a) (refused s Counter)
+    (pick (countedAt a) (nameCall s m a)
+    (pick (ltb a 0x2000) (patternCall s m a)
+    (outcome (chrAnswer (s .«chr_pages») m a) s))))

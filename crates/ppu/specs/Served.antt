@@ -1,0 +1,65 @@
+-- What is served in the page's place. 01, "Fetches, runs, breaks": "Served order: split, attribute mode, fill, page." Rules 6 and 8.
+use Prim.Native.Nat.{ℕ, _+_, _*_, _/_, _%_, _^_}
+use mathlib.Core.Bool.{Bool, true, false, _&&_, not}
+use mathlib.Core.List.{List}
+use lib.Dec.{eqb}
+use lib.ListN.{getD, length}
+use Rattle.memory.specs.Words.{pick}
+use Rattle.answers.specs.declared.Answer.{Answer}
+use Rattle.answers.specs.declared.Answer.the-variants.{Served}
+use Rattle.registers.specs.declared.Regs.{Regs}
+use Rattle.registers.specs.Registers.{attributeUse, nametableUse}
+use Rattle.banks.specs.Names.{selector}
+use Rattle.banks.specs.Chr.{chrNumber}
+use Rattle.scanline.specs.declared.Detector.{Detector}
+use Rattle.scanline.specs.Fetches.{attributeAt, nameAt}
+use Rattle.scanline.specs.Tiles.{spriteFetch, isPrefetched}
+use Rattle.split.specs.declared.VSplit.{VSplit}
+use Rattle.split.specs.Bits.{_AND_, _OR_, _<<_}
+use Rattle.split.specs.Control.{splitActive}
+use Rattle.split.specs.Places.{attributeAddress, attributeShift, attributeBits, mirroredByte, patternOffset}
+use Rattle.split.specs.Region.{scrollOf}
+use Rattle.state.specs.declared.PpuStatus.{PpuStatus}
+
+-- Rule 6: "Such direct CHR offsets are taken modulo the length; empty CHR answers 0."
+unfoldable pub direct : List ℕ → ℕ → ℕ
+direct chr o = pick (eqb (length chr) 0) 0 (getD chr (o % length chr) 0)
+
+-- Rule 6: "CHR at (hi << 10) OR ((that byte AND $3F) << 12) OR (address AND $FFF)"
+unfoldable pub exOffset : ℕ → ℕ → ℕ → ℕ
+exOffset hi byte a = (hi << 10) OR ((byte AND 0x3F) << 12) OR (a AND 0xFFF)
+
+-- Rule 8: "With t the address, name fetches to $2FFF get ExRAM at t. Non-name fetches, $3000-$3EFF included, get the attribute".
+unfoldable pub splitByte : VSplit → List ℕ → Bool → ℕ
+splitByte v exram name =
+    pick name (getD exram (v .«tile_addr») 0)
+    (mirroredByte (attributeBits (getD exram (attributeAddress (v .«tile_addr»)) 0) (attributeShift (v .«tile_addr»))))
+
+-- Rule 6: "its tile, or at an attribute address its attribute mirrored"
+abbrev pub fillByte : Regs → Bool → ℕ
+fillByte g attribute = pick attribute (mirroredByte (g .«fill_attr»)) (g .«fill_tile»)
+
+-- The split serves: it is active, and the fetch lies in its region.
+abbrev pub splitServes : Regs → VSplit → Bool → Bool
+splitServes g v framed = splitActive v (nametableUse g) framed && v .«in_region»
+
+-- At $2000-$3EFF. Rule 6: "In attribute mode, tile count outside 32-39, an attribute address answers the top two bits of ExRAM at the tile cache,
+-- mirrored"; "Fill .. is served with that use only". Selector 3 of $5105 is Fill.
+unfoldable pub nameServed : Regs → VSplit → Bool → PpuStatus → List ℕ → ℕ → Answer → Answer
+nameServed g v framed p exram a page =
+    pick (splitServes g v framed) (Served (splitByte v exram (nameAt a)))
+    (pick (attributeUse g && (attributeAt a && not (spriteFetch (p .«tile_number»)))) (Served (mirroredByte (getD exram (p .«tile_cache») 0 / 64)))
+    (pick (nametableUse g && eqb (selector (g .nametables) (a / 1024)) 3) (Served (fillByte g (attributeAt a)))
+    page))
+
+-- At $0000-$1FFF. Rule 8: "Pattern fetches get CHR at ..". Rule 6: "a pattern fetch answers CHR at ..", in attribute mode, outside 32-39.
+unfoldable pub patternServed : Regs → VSplit → Detector → PpuStatus → List ℕ → List ℕ → ℕ → Answer → Answer
+patternServed g v d p exram chr a page =
+    pick (splitServes g v (d .«in_frame»))
+    (Served (direct chr (patternOffset (v .bank) a (scrollOf (d .scanline) (isPrefetched (p .«tile_number»)) (v .scroll)))))
+    (pick (attributeUse g && not (spriteFetch (p .«tile_number»))) (Served (direct chr (exOffset (g .«chr_hi») (getD exram (p .«tile_cache») 0) a)))
+    page)
+
+-- Rule 5: "The sprite peek answers .. the CHR byte the sprite set would map there."
+unfoldable pub spriteByte : Regs → List ℕ → List ℕ → ℕ → ℕ
+spriteByte g b chr a = direct chr (chrNumber g b false (a / 1024 % 8) * 1024 + a % 1024)
