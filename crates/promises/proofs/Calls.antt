@@ -41,7 +41,7 @@ use Rattle.board.specs.Loads.{loadedState}
 use Rattle.board.specs.Whole.{resetRegs, toldPpu, dark}
 use Rattle.promises.proofs.Mapped.{Mappable, windows-keep, exram-keeps, chr-keeps, names-keep}
 
-mappable : (z : Lengths) → lengthsOk z ≡ true → Mappable (z .prg) (z .chr) (z .ram)
+pub mappable : (z : Lengths) → lengthsOk z ≡ true → Mappable (z .prg) (z .chr) (z .ram)
 mappable z h =
     let t = lengths-say z h in
     record {

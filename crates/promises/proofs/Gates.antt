@@ -31,25 +31,24 @@ use Rattle.board.specs.CpuSide.{cpuRead, cpuWrite}
 use Rattle.board.specs.Loads.{recorded, loadedState, loadCall}
 use Rattle.board.specs.Outcomes.{After}
 use Rattle.board.specs.Whole.{toldPpu, resetCall, clockCall, ppuRegisterCall}
-use Rattle.promises.specs.Kept.{GateStaysOpen}
 use Rattle.promises.proofs.Calls.{write-keeps-range, read-keeps-range, clock-keeps-range, reset-keeps-range, register-keeps-range, load-in-range}
 
 -- Buffers of the same lengths.
-record SameSizes (m n : Mem) : Type 0 where
-  prg : length (n .prg) ≡ length (m .prg)
-  chr : length (n .chr) ≡ length (m .chr)
-  ram : length (n .ram) ≡ length (m .ram)
-  ciram : length (n .ciram) ≡ length (m .ciram)
-  exram : length (n .exram) ≡ length (m .exram)
+pub record SameSizes (m n : Mem) : Type 0 where
+  pub prg : length (n .prg) ≡ length (m .prg)
+  pub chr : length (n .chr) ≡ length (m .chr)
+  pub ram : length (n .ram) ≡ length (m .ram)
+  pub ciram : length (n .ciram) ≡ length (m .ciram)
+  pub exram : length (n .exram) ≡ length (m .exram)
 
-same : (m : Mem) → SameSizes m m
+pub same : (m : Mem) → SameSizes m m
 same m = record { prg = refl; chr = refl; ram = refl; ciram = refl; exram = refl }
 
 pub in-range-of : (s : State) (m : Mem) → gateMem s m ≡ Open → inRange s ≡ true
 in-range-of s m h = open-in-range s _ _ _ _ _ h
 
 -- A state in range with the recorded lengths of one that passed, and buffers as long.
-stays : (s t : State) (m n : Mem) → gateMem s m ≡ Open → t .lengths ≡ s .lengths → inRange t ≡ true → SameSizes m n → gateMem t n ≡ Open
+pub stays : (s t : State) (m n : Mem) → gateMem s m ≡ Open → t .lengths ≡ s .lengths → inRange t ≡ true → SameSizes m n → gateMem t n ≡ Open
 stays s t m n h e r z =
     rw (z .prg, z .chr, z .ram, z .ciram, z .exram)
     (passes t _ _ _ _ _ r (rw e (open-same-lengths s _ _ _ _ _ h)))
@@ -64,7 +63,7 @@ stored-at-sizes m Chr i v = record { prg = refl; chr = length-set (m .chr) i v; 
 stored-at-sizes m CiRam i v = record { prg = refl; chr = refl; ram = refl; ciram = length-set (m .ciram) i v; exram = refl }
 stored-at-sizes m ExRam i v = record { prg = refl; chr = refl; ram = refl; ciram = refl; exram = length-set (m .exram) i v }
 
-page-stored-sizes : (m : Mem) (p : Page) (a v : ℕ) → SameSizes m (pageStored m p a v)
+pub page-stored-sizes : (m : Mem) (p : Page) (a v : ℕ) → SameSizes m (pageStored m p a v)
 unfolding pageStored
 page-stored-sizes m p a v = pick-keeps (SameSizes m) (p .writable) (stored-at-sizes m (p .src) _ v) (same m)
 
@@ -143,15 +142,3 @@ load-open m asRam mirroring h =
     (λ r.
     let ok = lengths-hold (length (m .prg)) (length (m .chr)) (length (m .ram)) (length (m .ciram)) (length (m .exram)) asRam (not-false _ p) (not-false _ c) (not-false _ r) in
     rw (p, c, r) (passes (loadedState (recorded m asRam) mirroring) _ _ _ _ _ (load-in-range (recorded m asRam) mirroring ok) (recorded-same m asRam)))))
-
-pub gate-stays-open : GateStaysOpen
-gate-stays-open =
-    record {
-      load = load-open;
-      read = λ s m a h. read-open s m h a;
-      write = λ s m a v h. write-open s m h a v;
-      reset = λ s m h. reset-open s m h;
-      clock = λ s m h. clock-open s m h;
-      register = λ s m a v h. register-open s m h a v;
-      ranged = in-range-of;
-    }

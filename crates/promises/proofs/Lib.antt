@@ -2,3 +2,5 @@ pub mod Mapped
 pub mod Calls
 pub mod Gates
 pub mod Refusals
+pub mod Fetching
+pub mod Promised

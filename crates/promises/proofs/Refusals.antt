@@ -23,13 +23,13 @@ use Rattle.cpu.specs.Writes.{prgWordAt, audioWrite}
 use Rattle.board.specs.CpuSide.{cpuRead, cpuPeek, cpuWrite}
 use Rattle.board.specs.Outcomes.{outcome, refused, behind}
 use Rattle.board.specs.Whole.{resetCall, clockCall, ppuRegisterCall}
-use Rattle.promises.specs.Refused.{isRefused, WhoIsRefused}
+use Rattle.promises.specs.Refused.{isRefused}
 use Rattle.promises.proofs.Gates.{in-range-of}
 
-abbrev Given : Answer → Type 0
+abbrev pub Given : Answer → Type 0
 Given a = isRefused a ≡ false
 
-shown-is-given : (s : Src) (v : ℕ) → Given (shownAs s v)
+pub shown-is-given : (s : Src) (v : ℕ) → Given (shownAs s v)
 shown-is-given Blank v = refl
 shown-is-given PrgRom v = refl
 shown-is-given PrgRam v = refl
@@ -38,7 +38,7 @@ shown-is-given CiRam v = refl
 shown-is-given ExRam v = refl
 
 -- A register, or the page: never a refusal.
-answer-is-given : (s : State) (m : Mem) (a : ℕ) → Given (cpuAnswer s m a)
+pub answer-is-given : (s : State) (m : Mem) (a : ℕ) → Given (cpuAnswer s m a)
 unfolding cpuAnswer registerRead pageAnswer
 answer-is-given s m a =
     pick-keeps Given (within 0x5113 0x5117 a) refl
@@ -60,22 +60,8 @@ answer-is-given s m a =
     (shown-is-given (pageOf (prgWordAt (s .«prg_pages») a) .src) (pageByte m (pageOf (prgWordAt (s .«prg_pages») a)) a)))))))))))))))))
 
 -- A peek answers as the read does, at an open gate and at a shut one.
-same-behind : (g : Gate) (s : State) (b : Bool) (x : Answer) (t : State)
+pub same-behind : (g : Gate) (s : State) (b : Bool) (x : Answer) (t : State)
     → behind g Refused (pick b (Refused Audio) x) ≡ behind g (refused s) (pick b (refused s Audio) (outcome x t)) .answer
 same-behind Open s true x t = refl
 same-behind Open s false x t = refl
 same-behind (Shut r) s b x t = refl
-
-pub who-is-refused : WhoIsRefused
-unfolding cpuRead cpuPeek cpuWrite resetCall clockCall ppuRegisterCall
-who-is-refused =
-    record {
-      read-audio = λ s m a h e. rw (h, e);
-      read-else = λ s m a h e. rw (h, e) (answer-is-given s m a);
-      peek = λ s m a. same-behind (gateMem s m) s (audioRead a) (cpuAnswer s m a) _;
-      write-audio = λ s m a v h e. rw (h, e);
-      write-else = λ s m a v h e. rw (h, e);
-      reset = λ s m h. rw (in-range-of s m h);
-      clock = λ s m h. rw (in-range-of s m h);
-      register = λ s m a v h. rw (in-range-of s m h);
-    }

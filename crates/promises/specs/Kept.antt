@@ -10,6 +10,8 @@ use Rattle.state.specs.declared.gate.Gate.the-variants.{Open}
 use Rattle.state.specs.declared.State.{State}
 use Rattle.state.specs.Gate.{gateMem}
 use Rattle.state.specs.Ranges.{inRange}
+use Rattle.board_ppu.specs.Fetch.{ppuFetch}
+use Rattle.board_ppu.specs.Peeks.{ppuWrite}
 use Rattle.board.specs.CpuSide.{cpuRead, cpuWrite}
 use Rattle.board.specs.Loads.{loadCall}
 use Rattle.board.specs.Whole.{resetCall, clockCall, ppuRegisterCall}
@@ -21,5 +23,7 @@ pub record GateStaysOpen : Type 0 where
   pub reset : (s : State) (m : Mem) → gateMem s m ≡ Open → gateMem (resetCall s .state) m ≡ Open
   pub clock : (s : State) (m : Mem) → gateMem s m ≡ Open → gateMem (clockCall s .state) m ≡ Open
   pub register : (s : State) (m : Mem) (a v : ℕ) → gateMem s m ≡ Open → gateMem (ppuRegisterCall s a v .state) m ≡ Open
+  pub fetch : (s : State) (m : Mem) (a : ℕ) → gateMem s m ≡ Open → gateMem (ppuFetch s m a .state) m ≡ Open
+  pub ppu-write : (s : State) (m : Mem) (a v : ℕ) → gateMem s m ≡ Open → gateMem (ppuWrite s m a v .out .state) (ppuWrite s m a v .mem) ≡ Open
   -- the calls on the state alone ask what the gate asks
   pub ranged : (s : State) (m : Mem) → gateMem s m ≡ Open → inRange s ≡ true

@@ -1,5 +1,5 @@
--- The promise is `gate-stays-open` of `Gates.antt`.
-use Rattle.promises.proofs.Gates.{gate-stays-open}
+-- The promise is `gate-stays-open` of `Promised.antt`.
+use Rattle.promises.proofs.Promised.{gate-stays-open}
 use Rattle.promises.proofs.gate_stays_open.Statement.{statement}
 use Rattle.promises.proofs.gate_stays_open.Tie as tie
 

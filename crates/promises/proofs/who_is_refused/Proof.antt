@@ -1,5 +1,5 @@
--- The promise is `who-is-refused` of `Refusals.antt`.
-use Rattle.promises.proofs.Refusals.{who-is-refused}
+-- The promise is `who-is-refused` of `Promised.antt`.
+use Rattle.promises.proofs.Promised.{who-is-refused}
 use Rattle.promises.proofs.who_is_refused.Statement.{statement}
 use Rattle.promises.proofs.who_is_refused.Tie as tie
 
