@@ -1,5 +1,6 @@
 // What a call answers, and the refusals: one for each row of 01's table "Refusal numbers", with its number.
 ghost use mathlib.Core.Path.{_≡_};
+ghost use Rattle.answers.specs.Letters.{letterOf, hasValue, valueOf};
 ghost use Rattle.answers.specs.Numbers.{numberOf};
 
 pub enum Refusal {
@@ -42,5 +43,47 @@ pub fn number_of(refusal: Refusal) -> u8
         Refusal::Kind => 9,
         Refusal::Number => 10,
         Refusal::Length => 11,
+    }
+}
+
+// The letter that an answer is printed as.
+pub fn letter_of(answer: Answer) -> u8
+    ensures { λ r. ⌜ r ≡ letterOf answer ⌝ }
+{
+    match answer {
+        Answer::Nothing => b'-',
+        Answer::Register(_) => b'R',
+        Answer::Served(_) => b'S',
+        Answer::Page(_) => b'M',
+        Answer::Blank => b'B',
+        Answer::Refused(_) => b'!',
+    }
+}
+
+// Whether a value follows the letter.
+pub fn has_value(answer: Answer) -> bool
+    ensures { λ r. ⌜ r ≡ hasValue answer ⌝ }
+{
+    match answer {
+        Answer::Nothing => false,
+        Answer::Register(_) => true,
+        Answer::Served(_) => true,
+        Answer::Page(_) => true,
+        Answer::Blank => false,
+        Answer::Refused(_) => true,
+    }
+}
+
+// The value, a refusal's number; 0 where there is none.
+pub fn value_of(answer: Answer) -> u8
+    ensures { λ r. ⌜ r ≡ valueOf answer ⌝ }
+{
+    match answer {
+        Answer::Nothing => 0,
+        Answer::Register(v) => v,
+        Answer::Served(v) => v,
+        Answer::Page(v) => v,
+        Answer::Blank => 0,
+        Answer::Refused(r) => number_of(r),
     }
 }

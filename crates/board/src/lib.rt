@@ -7,8 +7,10 @@ use answers::Refusal;
 use registers::Mirroring;
 use state::State;
 
+pub mod clocks;
 pub mod cpu_side;
 pub mod loads;
+pub mod ppu_registers;
 pub mod whole;
 
 // What a call gives back: its answer and the state after it.

@@ -6,7 +6,7 @@ ghost use Rattle.scanline.specs.Fetches.{countedAt};
 ghost use Rattle.scanline.specs.Ranges.{counterRefused};
 ghost use Rattle.state.specs.Ranges.{inRange};
 ghost use Rattle.board_ppu.specs.Fetch.{nameCall, setChanged, patternPages, patternCall, ppuFetch};
-use crate::peeks;
+use crate::pages;
 use answers::Refusal;
 use board::Outcome;
 use memory::PageWord;
@@ -37,8 +37,8 @@ fn fetch_name(
     if (active & vsplit.in_region) & beyond {
         return board::refuse(s, Refusal::Split);
     }
-    let pages = s.chr_pages;
-    let page = peeks::page_at(pages, prg, chr, ram, ciram, exram, addr);
+    let table = s.chr_pages;
+    let page = pages::page_at(table, prg, chr, ram, ciram, exram, addr);
     let answer = ppu::served::name_served(regs, vsplit, irq.in_frame, status, exram, addr, page);
     let mut t = s;
     t.irq = irq;
@@ -80,8 +80,8 @@ fn fetch_pattern(
     ensures { λ r. ⌜ r ≡ patternCall s (memOf (now (prg .entry)) (now (chr .entry)) (now (ram .entry)) (now (ciram .entry)) (now (exram .entry))) addr ⌝ }
 {
     let status = cpu::chosen::choose(s.ppu, s.irq.in_frame);
-    let pages = pattern_pages(s, status.bg_set);
-    let page = peeks::page_at(pages, prg, chr, ram, ciram, exram, addr);
+    let table = pattern_pages(s, status.bg_set);
+    let page = pages::page_at(table, prg, chr, ram, ciram, exram, addr);
     let answer = ppu::served::pattern_served(
         s.regs,
         s.vsplit,
@@ -94,7 +94,7 @@ fn fetch_pattern(
     );
     let mut t = s;
     t.ppu = status;
-    t.chr_pages = pages;
+    t.chr_pages = table;
     Outcome { answer, state: t }
 }
 
@@ -123,7 +123,7 @@ pub fn ppu_fetch(
     if a < 0x2000 {
         return fetch_pattern(s, prg, chr, ram, ciram, exram, a);
     }
-    let pages = s.chr_pages;
-    let answer = peeks::page_at(pages, prg, chr, ram, ciram, exram, a);
+    let table = s.chr_pages;
+    let answer = pages::page_at(table, prg, chr, ram, ciram, exram, a);
     Outcome { answer, state: s }
 }

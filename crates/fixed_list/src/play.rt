@@ -1,0 +1,151 @@
+// A trace, played record by record over a board that is loaded first.
+use crate::say;
+use answers::Answer;
+use board::Outcome;
+use registers::Mirroring;
+use state::State;
+use trace::Call;
+use trace::Found;
+
+// The call of a record.
+fn called(
+    s: State,
+    prg: &[u8],
+    chr: &mut [u8],
+    ram: &mut [u8],
+    ciram: &mut [u8],
+    exram: &mut [u8],
+    call: Call,
+) -> Outcome {
+    match call {
+        Call::Clock => board::clocks::clock(s),
+        Call::CpuRead(addr) => board::cpu_side::cpu_read(s, prg, chr, ram, ciram, exram, addr),
+        Call::CpuWrite(addr, val) => board::cpu_side::cpu_write(
+            s,
+            prg,
+            chr,
+            ram,
+            ciram,
+            exram,
+            addr,
+            val,
+        ),
+        Call::PpuRegister(addr, val) => board::ppu_registers::ppu_register(s, addr, val),
+        Call::PpuFetch(addr) => board_ppu::calls::ppu_fetch(s, prg, chr, ram, ciram, exram, addr),
+        Call::Reset => board::whole::reset(s),
+        Call::PpuWrite(addr, val) => board_ppu::stores::ppu_write(
+            s,
+            prg,
+            chr,
+            ram,
+            ciram,
+            exram,
+            addr,
+            val,
+        ),
+    }
+}
+
+// What is left after a record: whether the replay goes on, from which place, over which state.
+struct Turn {
+    going: bool,
+    at: usize,
+    state: State,
+}
+
+// Prints the line of a call; whether the call was accepted.
+fn told(count: u64, call: Call, answer: Answer, s: State) -> bool {
+    if let Answer::Refused(_) = answer {
+        say::refused(count, call, answer);
+        return false;
+    }
+    let interrupt = board::whole::interrupt_up(s);
+    say::accepted(count, call, answer, interrupt);
+    true
+}
+
+// Plays the record at a place and prints its line, or the line of the end.
+fn played(
+    trace: &[u8],
+    at: usize,
+    count: u64,
+    s: State,
+    prg: &[u8],
+    chr: &mut [u8],
+    ram: &mut [u8],
+    ciram: &mut [u8],
+    exram: &mut [u8],
+) -> Turn {
+    let found = trace::records::record_at(trace, at);
+    match found {
+        Found::End => {
+            say::end(count);
+            Turn {
+                going: false,
+                at,
+                state: s,
+            }
+        }
+        Found::Refused(why) => {
+            say::unreadable(count, why);
+            Turn {
+                going: false,
+                at,
+                state: s,
+            }
+        }
+        Found::Record(call, next) => {
+            let outcome = called(s, prg, chr, ram, ciram, exram, call);
+            let answer = outcome.answer;
+            let after = outcome.state;
+            let going = told(count, call, answer, after);
+            Turn {
+                going,
+                at: next,
+                state: after,
+            }
+        }
+    }
+}
+
+// A trace of 8,192 bytes has at most as many records, and its end.
+fn records(
+    trace: &[u8],
+    loaded: State,
+    prg: &[u8],
+    chr: &mut [u8],
+    ram: &mut [u8],
+    ciram: &mut [u8],
+    exram: &mut [u8],
+) {
+    let mut s = loaded;
+    let mut at = 0;
+    for count in 0..8193 {
+        let turn = played(trace, at, count, s, prg, chr, ram, ciram, exram);
+        if !turn.going {
+            break;
+        }
+        s = turn.state;
+        at = turn.at;
+    }
+}
+
+pub fn play(
+    trace: &[u8],
+    prg: &[u8],
+    chr: &mut [u8],
+    ram: &mut [u8],
+    ciram: &mut [u8],
+    exram: &mut [u8],
+    writable: bool,
+    mirroring: Mirroring,
+) {
+    let outcome = board::loads::load(prg, chr, ram, ciram, exram, writable, mirroring);
+    let answer = outcome.answer;
+    if let Answer::Refused(why) = answer {
+        say::load_refused(why);
+        return;
+    }
+    let s = outcome.state;
+    records(trace, s, prg, chr, ram, ciram, exram);
+}
