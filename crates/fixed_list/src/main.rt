@@ -9,7 +9,7 @@ use trace::too_long;
 mod fill;
 mod head;
 mod play;
-mod say;
+mod lines;
 
 // The case over buffers of its own lengths.
 fn play_over(head: Head, trace: &[u8], prg: &mut [u8], chr: &mut [u8], ram: &mut [u8]) {

@@ -1,5 +1,5 @@
 // A trace, played record by record over a board that is loaded first.
-use crate::say;
+use crate::lines;
 use answers::Answer;
 use board::Outcome;
 use registers::Mirroring;
@@ -56,11 +56,11 @@ struct Turn {
 // Prints the line of a call; whether the call was accepted.
 fn told(count: u64, call: Call, answer: Answer, s: State) -> bool {
     if let Answer::Refused(_) = answer {
-        say::refused(count, call, answer);
+        lines::refused(count, call, answer);
         return false;
     }
     let interrupt = board::whole::interrupt_up(s);
-    say::accepted(count, call, answer, interrupt);
+    lines::accepted(count, call, answer, interrupt);
     true
 }
 
@@ -79,7 +79,7 @@ fn played(
     let found = trace::records::record_at(trace, at);
     match found {
         Found::End => {
-            say::end(count);
+            lines::end(count);
             Turn {
                 going: false,
                 at,
@@ -87,7 +87,7 @@ fn played(
             }
         }
         Found::Refused(why) => {
-            say::unreadable(count, why);
+            lines::unreadable(count, why);
             Turn {
                 going: false,
                 at,
@@ -143,7 +143,7 @@ pub fn play(
     let outcome = board::loads::load(prg, chr, ram, ciram, exram, writable, mirroring);
     let answer = outcome.answer;
     if let Answer::Refused(why) = answer {
-        say::load_refused(why);
+        lines::load_refused(why);
         return;
     }
     let s = outcome.state;

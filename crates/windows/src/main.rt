@@ -1,8 +1,9 @@
 // Prints the pages that windows show, for the comparison with the Rust's: `window length bank: p0 p1 ..`, each page its number in the
 // buffer, or `blank`. The file `stdout` is what the Rust's own `map_prg` and `map_chr` gave (oracle/fixed/windows.answers).
-use libc::STDOUT_FILENO;
 use memory::PageWord;
 use memory::Src;
+use say::say;
+use say::say_number;
 
 const PRG_LENGTHS: [u32; 13] = [
     0,
@@ -25,14 +26,6 @@ const CHR_LENGTHS: [u32; 8] = [0, 1024, 2048, 3072, 7168, 8192, 24576, 1048576];
 // The first eleven are PRG's.
 const BANKS: [u32; 14] = [0, 1, 2, 3, 5, 7, 8, 63, 127, 128, 255, 1023, 1024, 8191];
 
-fn say(text: &[u8]) {
-    io::write_all(STDOUT_FILENO, text);
-}
-
-fn say_number(n: u32) {
-    io::print_decimal(STDOUT_FILENO, n as u64);
-}
-
 fn say_page(word: PageWord) {
     let page = memory::words::page_of(word);
     let src = page.src;
@@ -40,16 +33,16 @@ fn say_page(word: PageWord) {
         say(b" blank");
     } else {
         say(b" ");
-        say_number(page.index);
+        say_number(page.index as u64);
     }
 }
 
 fn say_head(window: u32, len: u32, bank: u32) {
-    say_number(window);
+    say_number(window as u64);
     say(b" ");
-    say_number(len);
+    say_number(len as u64);
     say(b" ");
-    say_number(bank);
+    say_number(bank as u64);
     say(b":");
 }
 

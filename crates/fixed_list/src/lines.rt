@@ -2,19 +2,12 @@
 use answers::Answer;
 use answers::Refusal;
 use board::Interrupt;
-use libc::STDOUT_FILENO;
+use say::say;
+use say::say_number;
 use trace::Call;
 
-pub fn say(text: &[u8]) {
-    io::write_all(STDOUT_FILENO, text);
-}
-
-fn number(n: u64) {
-    io::print_decimal(STDOUT_FILENO, n);
-}
-
 fn refusal(why: Refusal) {
-    number(answers::number_of(why) as u64);
+    say_number(answers::number_of(why) as u64);
     say(b"\n");
 }
 
@@ -23,7 +16,7 @@ fn answer(a: Answer) {
     say(&text);
     if answers::has_value(a) {
         say(b" ");
-        number(answers::value_of(a) as u64);
+        say_number(answers::value_of(a) as u64);
     }
 }
 
@@ -36,9 +29,9 @@ fn interrupt(i: Interrupt) {
 }
 
 fn record(count: u64, call: Call) {
-    number(count);
+    say_number(count);
     say(b" ");
-    number(trace::kind_of(call) as u64);
+    say_number(trace::kind_of(call) as u64);
 }
 
 // The line of an accepted call.
@@ -57,14 +50,14 @@ pub fn refused(count: u64, call: Call, a: Answer) {
 
 // The line of a record that cannot be read.
 pub fn unreadable(count: u64, why: Refusal) {
-    number(count);
+    say_number(count);
     say(b" ? ");
     refusal(why);
 }
 
 pub fn end(count: u64) {
     say(b"end ");
-    number(count);
+    say_number(count);
     say(b"\n");
 }
 

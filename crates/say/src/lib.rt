@@ -1,0 +1,10 @@
+// Text and numbers on standard output, for the programs that are held to a stored output.
+use libc::STDOUT_FILENO;
+
+pub fn say(text: &[u8]) {
+    io::write_all(STDOUT_FILENO, text);
+}
+
+pub fn say_number(n: u64) {
+    io::print_decimal(STDOUT_FILENO, n);
+}
