@@ -57,11 +57,27 @@ fn recorded(s: State, prg: &[u8], chr: &[u8], ram: &[u8], ciram: &[u8], exram: &
     t.lengths.loaded = false;
     read_over(b"not loaded", t, prg, chr, ram, ciram, exram);
     t.lengths.prg = 4096;
-    read_over(b"not loaded, with another length", t, prg, chr, ram, ciram, exram);
+    read_over(
+        b"not loaded, with another length",
+        t,
+        prg,
+        chr,
+        ram,
+        ciram,
+        exram,
+    );
     t = s;
     t.lengths.prg = 0;
     read_over(b"another length", t, prg, chr, ram, ciram, exram);
-    read_over(b"PRG-ROM of 0 recorded and lent", t, &prg[..0], chr, ram, ciram, exram);
+    read_over(
+        b"PRG-ROM of 0 recorded and lent",
+        t,
+        &prg[..0],
+        chr,
+        ram,
+        ciram,
+        exram,
+    );
 }
 
 // Page words that a table may not show: another table's buffer, a page past the buffer's end, CHR-ROM marked writable.

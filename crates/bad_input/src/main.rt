@@ -22,7 +22,15 @@ fn told(label: &[u8], answer: Answer) {
 }
 
 // A CPU read of $8000 over a state.
-pub fn read_over(label: &[u8], s: State, prg: &[u8], chr: &[u8], ram: &[u8], ciram: &[u8], exram: &[u8]) {
+pub fn read_over(
+    label: &[u8],
+    s: State,
+    prg: &[u8],
+    chr: &[u8],
+    ram: &[u8],
+    ciram: &[u8],
+    exram: &[u8],
+) {
     let outcome = board::cpu_side::cpu_read(s, prg, chr, ram, ciram, exram, CpuAddr(0x8000));
     let answer = outcome.answer;
     told(label, answer);
@@ -97,11 +105,26 @@ fn main() {
     load_of(b"load", &prg, &chr, &ram, &ciram, &exram);
     load_of(b"load PRG-ROM 4,096", &odd, &chr, &ram, &ciram, &exram);
     load_of(b"load CHR 2,000", &prg, &odd[..2000], &ram, &ciram, &exram);
-    load_of(b"load PRG-RAM 2,000", &prg, &chr, &odd[..2000], &ciram, &exram);
+    load_of(
+        b"load PRG-RAM 2,000",
+        &prg,
+        &chr,
+        &odd[..2000],
+        &ciram,
+        &exram,
+    );
     load_of(b"load CIRAM 4,096", &prg, &chr, &ram, &odd, &exram);
     load_of(b"load ExRAM 4,096", &prg, &chr, &ram, &ciram, &odd);
     load_of(b"load of nothing", &none, &none, &none, &none, &none);
-    let outcome = board::loads::load(&prg, &chr, &ram, &ciram, &exram, false, Mirroring::Horizontal);
+    let outcome = board::loads::load(
+        &prg,
+        &chr,
+        &ram,
+        &ciram,
+        &exram,
+        false,
+        Mirroring::Horizontal,
+    );
     let s = outcome.state;
     lengths(s, &prg, &chr, &ram, &ciram, &exram);
     broken::each(s, &prg, &chr, &ram, &ciram, &exram);

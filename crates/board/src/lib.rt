@@ -1,7 +1,7 @@
 // The board as the customer calls it. Every function takes anything: it asks the gate (refusals 4 and 5), then its own refusals, then does the
 // call. 01, "The board we take". A call over memory takes the five lent buffers; a call that touches none takes the state alone.
 ghost use mathlib.Core.Path.{_≡_};
-ghost use Rattle.board.specs.Outcomes.{outcome, refused};
+ghost use Rattle.board.specs.Outcomes.{refused};
 use answers::Answer;
 use answers::Refusal;
 use registers::Mirroring;
@@ -25,7 +25,7 @@ pub enum Told {
     Refused(Refusal),
 }
 
-// What `interrupt` tells.
+// What `interrupt_up` tells.
 pub enum Interrupt {
     Up,
     Down,

@@ -11,7 +11,7 @@ use Rattle.answers.specs.declared.Refusal.the-variants.{Counter, Split}
 use Rattle.banks.specs.Chr.{chrMapped}
 use Rattle.cpu.specs.Chosen.{chosen}
 use Rattle.ppu.specs.Fetches.{ppuSeen, splitSeen}
-use Rattle.ppu.specs.Served.{splitServes, nameServed, patternServed}
+use Rattle.ppu.specs.Served.{splitServes, countedServed, patternServed}
 use Rattle.scanline.specs.declared.Detector.{Detector}
 use Rattle.scanline.specs.Fetches.{countedAt}
 use Rattle.scanline.specs.Ranges.{counterRefused}
@@ -26,24 +26,24 @@ use Rattle.board.specs.declared.Outcome.{Outcome}
 use Rattle.board.specs.Outcomes.{outcome, refused, behind}
 use Rattle.board_ppu.specs.Peeks.{chrAnswer}
 
--- The groups after a fetch at $2000-$3EFF: the detector, then the tile count and cache, then the split.
-abbrev pub nameIrq : State → ℕ → Detector
-nameIrq s a = seenAt (s .irq) a
+-- What a fetch at $2000-$3EFF leaves in each group. The order inside the fetch is that of `ppuSeen` and `splitSeen`.
+abbrev pub countedIrq : State → ℕ → Detector
+countedIrq s a = seenAt (s .irq) a
 
-abbrev pub namePpu : State → ℕ → PpuStatus
-namePpu s a = ppuSeen (s .regs) (nameIrq s a .«match_count») (s .ppu) a
+abbrev pub countedPpu : State → ℕ → PpuStatus
+countedPpu s a = ppuSeen (s .regs) (countedIrq s a .«match_count») (s .ppu) a
 
-abbrev pub nameSplit : State → ℕ → VSplit
-nameSplit s a = splitSeen (s .regs) (s .vsplit) (nameIrq s a) (namePpu s a .«tile_number») a
+abbrev pub countedSplit : State → ℕ → VSplit
+countedSplit s a = splitSeen (s .regs) (s .vsplit) (countedIrq s a) (countedPpu s a .«tile_number») a
 
-abbrev pub nameState : State → ℕ → State
-nameState s a = withVsplit (withPpu (withIrq s (nameIrq s a)) (namePpu s a)) (nameSplit s a)
+abbrev pub countedState : State → ℕ → State
+countedState s a = withVsplit (withPpu (withIrq s (countedIrq s a)) (countedPpu s a)) (countedSplit s a)
 
 -- Refusal 8: "a split fetch would use a tile address above 959"; else the answer, by the groups after the fetch.
-unfoldable pub nameCall : State → Mem → ℕ → Outcome
-nameCall s m a =
-    pick (splitServes (s .regs) (nameSplit s a) (nameIrq s a .«in_frame») && splitRefused (nameSplit s a)) (refused s Split)
-    (outcome (nameServed (s .regs) (nameSplit s a) (nameIrq s a .«in_frame») (namePpu s a) (m .exram) a (chrAnswer (s .«chr_pages») m a)) (nameState s a))
+unfoldable pub countedCall : State → Mem → ℕ → Outcome
+countedCall s m a =
+    pick (splitServes (s .regs) (countedSplit s a) (countedIrq s a .«in_frame») && splitRefused (countedSplit s a)) (refused s Split)
+    (outcome (countedServed (s .regs) (countedSplit s a) (countedIrq s a .«in_frame») (countedPpu s a) (m .exram) a (chrAnswer (s .«chr_pages») m a)) (countedState s a))
 
 -- Rule 5: "A pattern fetch chooses first, mapping only on a change".
 abbrev pub setChanged : Bool → Bool → Bool
@@ -68,6 +68,6 @@ unfoldable pub ppuFetch : State → Mem → ℕ → Outcome
 ppuFetch s m a =
     behind (gateMem s m) (refused s)
     (pick (counterRefused (s .irq) (s .ppu .«tile_number») a) (refused s Counter)
-    (pick (countedAt a) (nameCall s m a)
+    (pick (countedAt a) (countedCall s m a)
     (pick (ltb a 0x2000) (patternCall s m a)
     (outcome (chrAnswer (s .«chr_pages») m a) s))))

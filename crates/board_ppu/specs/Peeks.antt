@@ -12,7 +12,7 @@ use Rattle.answers.specs.declared.Answer.the-variants.{Nothing, Served, Refused
 use Rattle.answers.specs.declared.Refusal.{Refusal}
 use Rattle.scanline.specs.Fetches.{countedAt}
 use Rattle.cpu.specs.Reads.{pageAnswer}
-use Rattle.ppu.specs.Served.{nameServed, patternServed, spriteByte}
+use Rattle.ppu.specs.Served.{countedServed, patternServed, spriteByte}
 use Rattle.state.specs.declared.State.{State}
 use Rattle.state.specs.Gate.{gateMem}
 use Rattle.board.specs.Outcomes.{outcome, refused, After, afterOf, behind}
@@ -28,7 +28,7 @@ chrAnswer pages m a = pageAnswer m (pageOf (chrWordAt pages a)) a
 unfoldable pub ppuPeek : State → Mem → ℕ → Answer
 ppuPeek s m a =
     behind (gateMem s m) Refused
-    (pick (countedAt a) (nameServed (s .regs) (s .vsplit) (s .irq .«in_frame») (s .ppu) (m .exram) a (chrAnswer (s .«chr_pages») m a))
+    (pick (countedAt a) (countedServed (s .regs) (s .vsplit) (s .irq .«in_frame») (s .ppu) (m .exram) a (chrAnswer (s .«chr_pages») m a))
     (pick (ltb a 0x2000) (patternServed (s .regs) (s .vsplit) (s .irq) (s .ppu) (m .exram) (m .chr) a (chrAnswer (s .«chr_pages») m a))
     (chrAnswer (s .«chr_pages») m a)))
 

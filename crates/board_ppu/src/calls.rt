@@ -5,7 +5,7 @@ ghost use Rattle.memory.specs.Bytes.{memOf};
 ghost use Rattle.scanline.specs.Fetches.{countedAt};
 ghost use Rattle.scanline.specs.Ranges.{counterRefused};
 ghost use Rattle.state.specs.Ranges.{inRange};
-ghost use Rattle.board_ppu.specs.Fetch.{nameCall, setChanged, patternPages, patternCall, ppuFetch};
+ghost use Rattle.board_ppu.specs.Fetch.{countedCall, setChanged, patternPages, patternCall, ppuFetch};
 use crate::pages;
 use answers::Refusal;
 use board::Outcome;
@@ -15,7 +15,7 @@ use state::State;
 use state::gate::Gate;
 
 // At $2000-$3EFF: tile count, tile cache, run and line, split, answer.
-fn fetch_name(
+fn fetch_counted(
     s: State,
     prg: &[u8],
     chr: &[u8],
@@ -25,7 +25,7 @@ fn fetch_name(
     addr: u16,
 ) -> Outcome
     requires { ⌜ (inRange s ≡ true) × ((countedAt addr ≡ true) × (counterRefused (s .irq) (s .ppu .«tile_number») addr ≡ false)) ⌝ }
-    ensures { λ r. ⌜ r ≡ nameCall s (memOf (now (prg .entry)) (now (chr .entry)) (now (ram .entry)) (now (ciram .entry)) (now (exram .entry))) addr ⌝ }
+    ensures { λ r. ⌜ r ≡ countedCall s (memOf (now (prg .entry)) (now (chr .entry)) (now (ram .entry)) (now (ciram .entry)) (now (exram .entry))) addr ⌝ }
 {
     let regs = s.regs;
     let irq = scanline::seen(s.irq, addr);
@@ -39,7 +39,7 @@ fn fetch_name(
     }
     let table = s.chr_pages;
     let page = pages::page_at(table, prg, chr, ram, ciram, exram, addr);
-    let answer = ppu::served::name_served(regs, vsplit, irq.in_frame, status, exram, addr, page);
+    let answer = ppu::served::counted_served(regs, vsplit, irq.in_frame, status, exram, addr, page);
     let mut t = s;
     t.irq = irq;
     t.ppu = status;
@@ -118,7 +118,7 @@ pub fn ppu_fetch(
         return board::refuse(s, Refusal::Counter);
     }
     if scanline::tiles::counted(a) {
-        return fetch_name(s, prg, chr, ram, ciram, exram, a);
+        return fetch_counted(s, prg, chr, ram, ciram, exram, a);
     }
     if a < 0x2000 {
         return fetch_pattern(s, prg, chr, ram, ciram, exram, a);

@@ -27,7 +27,7 @@ pub fn ppu_peek(
     let table = s.chr_pages;
     let page = pages::page_at(table, prg, chr, ram, ciram, exram, a);
     if scanline::tiles::counted(a) {
-        return ppu::served::name_served(s.regs, s.vsplit, s.irq.in_frame, s.ppu, exram, a, page);
+        return ppu::served::counted_served(s.regs, s.vsplit, s.irq.in_frame, s.ppu, exram, a, page);
     }
     if a < 0x2000 {
         return ppu::served::pattern_served(s.regs, s.vsplit, s.irq, s.ppu, exram, chr, a, page);

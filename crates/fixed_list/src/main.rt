@@ -8,8 +8,8 @@ use trace::too_long;
 
 mod fill;
 mod head;
-mod play;
 mod lines;
+mod play;
 
 // The case over buffers of its own lengths.
 fn play_over(head: Head, trace: &[u8], prg: &mut [u8], chr: &mut [u8], ram: &mut [u8]) {

@@ -1,7 +1,7 @@
 -- Demand 3: "The history alone tells the scanline interrupt." Stated of any machine that keeps a detector: S are its states (with the
 -- memories), C its calls, and `Takes s c s'` says that the call c is accepted in s and leaves s'; `first` is the state that load leaves,
 -- `view` where the detector lies, and `event` what it can tell of a call. In this crate the machine is the detector with its tile count;
--- above it, the board.
+-- above it, as a board is.
 -- Assumes nothing.
 use Prim.Native.Nat.{ℕ, _+_, _-_, _≤_, _<_}
 use mathlib.Core.Path.{_≡_}
@@ -43,7 +43,7 @@ pub record Demand3 (S C : Type 0) (first : S) (Takes : S → C → S → Type 0)
       → {s : S} → Played S C first Takes (c ∷ (gs ++ hs)) s → interruptUp (view s) ≡ true
 
 -- Any machine has it that keeps two things: load leaves its detector as loaded, and each call that is accepted moves it by the call's event.
--- (A contract speaks of no types, so this is cited by way of its instances: the one below, and the board's.)
+-- (A contract speaks of no types, so this is cited by way of its instances: the one below.)
 abbrev pub AnyMachine : Type 1
 AnyMachine = (S C : Type 0) (first : S) (Takes : S → C → S → Type 0) (view : S → Detector) (event : C → Event)
     → view first ≡ loaded → ((s s' : S) (c : C) → Takes s c s' → view s' ≡ step (view s) (event c)) → Demand3 S C first Takes view event

@@ -45,8 +45,8 @@ splitServes g v framed = splitActive v (nametableUse g) framed && v .«in_region
 
 -- At $2000-$3EFF. Rule 6: "In attribute mode, tile count outside 32-39, an attribute address answers the top two bits of ExRAM at the tile cache,
 -- mirrored"; "Fill .. is served with that use only". Selector 3 of $5105 is Fill.
-unfoldable pub nameServed : Regs → VSplit → Bool → PpuStatus → List ℕ → ℕ → Answer → Answer
-nameServed g v framed p exram a page =
+unfoldable pub countedServed : Regs → VSplit → Bool → PpuStatus → List ℕ → ℕ → Answer → Answer
+countedServed g v framed p exram a page =
     pick (splitServes g v framed) (Served (splitByte v exram (nameAt a)))
     (pick (attributeUse g && (attributeAt a && not (spriteFetch (p .«tile_number»)))) (Served (mirroredByte (getD exram (p .«tile_cache») 0 / 64)))
     (pick (nametableUse g && eqb (selector (g .nametables) (a / 1024)) 3) (Served (fillByte g (attributeAt a)))

@@ -2,7 +2,7 @@
 ghost use mathlib.Core.Path.{_≡_};
 ghost use mathlib.Core.Bool.{_&&_, not};
 ghost use lib.ListN.{getD};
-ghost use Rattle.ppu.specs.Served.{direct, exOffset, splitByte, fillByte, nameServed, patternServed, spriteByte};
+ghost use Rattle.ppu.specs.Served.{direct, exOffset, splitByte, fillByte, countedServed, patternServed, spriteByte};
 use answers::Answer;
 use registers::Regs;
 use scanline::Detector;
@@ -52,7 +52,7 @@ fn fill_byte(regs: Regs, attribute: bool) -> u8
 }
 
 // At $2000-$3EFF.
-pub fn name_served(
+pub fn counted_served(
     regs: Regs,
     v: VSplit,
     in_frame: bool,
@@ -61,7 +61,7 @@ pub fn name_served(
     addr: u16,
     page: Answer,
 ) -> Answer
-    ensures { λ r. ⌜ r ≡ nameServed regs v «in_frame» p (now (exram .entry)) addr page ⌝ }
+    ensures { λ r. ⌜ r ≡ countedServed regs v «in_frame» p (now (exram .entry)) addr page ⌝ }
 {
     let as_name = registers::nametable_use(regs);
     let attribute = scanline::tiles::attribute_address(addr);

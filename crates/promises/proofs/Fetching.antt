@@ -29,8 +29,8 @@ use Rattle.state.specs.Ranges.{inRange}
 use Rattle.state.proofs.RangeLaws.{Ranged, ranged, in-range}
 use Rattle.cpu.specs.Chosen.{chosen}
 use Rattle.ppu.specs.Fetches.{cacheAfter, ppuSeen, splitSeen}
-use Rattle.ppu.specs.Served.{splitServes, nameServed, patternServed}
-use Rattle.board_ppu.specs.Fetch.{nameIrq, namePpu, nameSplit, nameState, nameCall, setChanged, patternPages, patternPpu, patternState, patternCall, ppuFetch}
+use Rattle.ppu.specs.Served.{splitServes, countedServed, patternServed}
+use Rattle.board_ppu.specs.Fetch.{countedIrq, countedPpu, countedSplit, countedState, countedCall, setChanged, patternPages, patternPpu, patternState, patternCall, ppuFetch}
 use Rattle.board_ppu.specs.Peeks.{chrAnswer, ppuWrite}
 use Rattle.promises.proofs.Calls.{mappable}
 use Rattle.promises.proofs.Gates.{SameSizes, same, in-range-of, stays, page-stored-sizes}
@@ -43,18 +43,18 @@ cache-keeps g cache raised a h =
     pick-keeps (λ (n : ℕ). leb n 1023 ≡ true) (attributeUse g && (not (attributeAt a) && not (spriteFetch raised))) (le-leb (a % 1024) 1023 (omega arith)) h
 
 -- The split's address stays at 959 or less.
-split-keeps : (s : State) (a : ℕ) → splitRanges (s .vsplit) ≡ true → splitRanges (nameSplit s a) ≡ true
+split-keeps : (s : State) (a : ℕ) → splitRanges (s .vsplit) ≡ true → splitRanges (countedSplit s a) ≡ true
 unfolding splitSeen
 split-keeps s a h =
-    pick-keeps (λ (v : VSplit). splitRanges v ≡ true) (nameAt a && splitActive (s .vsplit) (nametableUse (s .regs)) (nameIrq s a .«in_frame»))
-    (name-keeps-ranges (s .vsplit) _ _ _ (scroll-small (nameIrq s a .scanline) (isPrefetched (namePpu s a .«tile_number»)) (s .vsplit .scroll)) h) h
+    pick-keeps (λ (v : VSplit). splitRanges v ≡ true) (nameAt a && splitActive (s .vsplit) (nametableUse (s .regs)) (countedIrq s a .«in_frame»))
+    (name-keeps-ranges (s .vsplit) _ _ _ (scroll-small (countedIrq s a .scanline) (isPrefetched (countedPpu s a .«tile_number»)) (s .vsplit .scroll)) h) h
 
 module _ (s : State) (a : ℕ) (h : inRange s ≡ true) where
-  pub name-keeps-range : countedAt a ≡ true → counterRefused (s .irq) (s .ppu .«tile_number») a ≡ false → inRange (nameState s a) ≡ true
+  pub name-keeps-range : countedAt a ≡ true → counterRefused (s .irq) (s .ppu .«tile_number») a ≡ false → inRange (countedState s a) ≡ true
   unfolding ppuSeen seenAt
   name-keeps-range counts free =
       let r = ranged s h in
-      in-range (nameState s a) (record {
+      in-range (countedState s a) (record {
         lengths = r .lengths;
         detector = ranges-kept .seen (s .irq) (s .ppu .«tile_number») a counts free (r .detector);
         regs = r .regs;
@@ -66,8 +66,8 @@ module _ (s : State) (a : ℕ) (h : inRange s ≡ true) where
       })
 
   -- Refusal 8 is never given.
-  pub split-free : splitServes (s .regs) (nameSplit s a) (nameIrq s a .«in_frame») && splitRefused (nameSplit s a) ≡ false
-  split-free = rw (never-refused (nameSplit s a) (split-keeps s a (ranged s h .vsplit))) (and-false (splitServes (s .regs) (nameSplit s a) (nameIrq s a .«in_frame»)))
+  pub split-free : splitServes (s .regs) (countedSplit s a) (countedIrq s a .«in_frame») && splitRefused (countedSplit s a) ≡ false
+  split-free = rw (never-refused (countedSplit s a) (split-keeps s a (ranged s h .vsplit))) (and-false (splitServes (s .regs) (countedSplit s a) (countedIrq s a .«in_frame»)))
 
   pub pattern-keeps-range : inRange (patternState s) ≡ true
   unfolding chosen patternPages
@@ -89,7 +89,7 @@ module _ (s : State) (a : ℕ) (h : inRange s ≡ true) where
 
 module _ (s : State) (m : Mem) (h : gateMem s m ≡ Open) where
   pub fetch-open : (a : ℕ) → gateMem (ppuFetch s m a .state) m ≡ Open
-  unfolding ppuFetch nameCall patternCall
+  unfolding ppuFetch countedCall patternCall
   fetch-open a =
       let r = in-range-of s m h in
       split (counterRefused (s .irq) (s .ppu .«tile_number») a)

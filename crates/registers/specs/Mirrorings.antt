@@ -1,5 +1,5 @@
 -- Mirroring, as the console is told: the header's at load, then what $5105 says. The Rust's `write_register`, $5105: two bits for each of the
--- four nametables, D C B A; what is neither horizontal, vertical nor one screen is four screens.
+-- four nametables, D C B A; what is neither horizontal, vertical nor one screen of CIRAM is four screens.
 use Prim.Native.Nat.{ℕ}
 use lib.Dec.{eqb}
 use Rattle.memory.specs.Words.{pick}

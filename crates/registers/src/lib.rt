@@ -126,7 +126,7 @@ pub fn mirroring_after(mirroring: Mirroring, addr: u16, val: u8) -> Mirroring
     }
 }
 
-// "fill attribute and mode numbers 0-3; protect bytes 0-3; `chr_hi` one of 0, 256, 512, 768"
+// "fill attribute and mode numbers 0-3; protect bytes 0-3; .. `chr_hi` one of 0, 256, 512, 768"
 pub fn ranges_ok(regs: Regs) -> bool
     ensures { λ r. ⌜ r ≡ rangesOk regs ⌝ }
 {

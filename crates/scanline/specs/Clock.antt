@@ -12,7 +12,7 @@ use Rattle.scanline.specs.declared.Detector.{Detector}
 use Rattle.scanline.specs.declared.record.ClockRecord.{ClockRecord}
 use Rattle.scanline.specs.declared.record.ClockOutcome.{ClockOutcome}
 
--- 01, "What must change shape": the clock record is "reading, idle count, in-frame and previous address"
+-- 01, "The form each place takes": "struct of reading, idle count, in-frame and previous address"
 abbrev pub recordOf : Detector → ClockRecord
 recordOf d = record { reading = d .reading; «idle_count» = d .«idle_count»; «in_frame» = d .«in_frame»; «prev_some» = d .«prev_some»; «prev_addr» = d .«prev_addr» }
 

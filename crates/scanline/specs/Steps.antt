@@ -86,7 +86,7 @@ withFrame d some framed flag = record {
   «irq_scanline» = d .«irq_scanline»;
 }
 
--- "A break is a PPU register write to $2001 with bits 3 and 4 clear": no fetch before it, and out of frame. "The flag" stands.
+-- "A break is a PPU register write to $2001 with bits 3 and 4 clear": no fetch before it, and out of frame. The flag stands.
 abbrev pub broken : Detector → Detector
 broken d = withFrame d false false (d .pending)
 

@@ -36,12 +36,12 @@ returns-2 c = rw (← c .before .before .before .before .before .passed .ensures
 counted-requires : tie.Need-counted-requires
 counted-requires c κs = search needs
 
-fetch-name-requires : tie.Need-fetch-name-requires
-fetch-name-requires c κs = (open-in-range _ _ _ _ _ _ (sym (c .before .before .before .before .before .before .passed .ensures) ∙ c .before .before .before .before .enum-told .given .1), (sym (c .before .counted .ensures) ∙ c .if2 .taken, sym (c .before .before .before .counter-refused .ensures) ∙ c .before .before .if1 .left))
+fetch-counted-requires : tie.Need-fetch-counted-requires
+fetch-counted-requires c κs = (open-in-range _ _ _ _ _ _ (sym (c .before .before .before .before .before .before .passed .ensures) ∙ c .before .before .before .before .enum-told .given .1), (sym (c .before .counted .ensures) ∙ c .if2 .taken, sym (c .before .before .before .counter-refused .ensures) ∙ c .before .before .if1 .left))
 
 returns-3 : tie.Need-returns-3
 unfolding ppuFetch
-returns-3 c = rw (← c .before .before .before .before .before .before .before .passed .ensures, c .before .before .before .before .before .enum-told .given .1, ← c .before .before .before .before .counter-refused .ensures, c .before .before .before .if1 .left, ← c .before .before .counted .ensures, c .before .if2 .taken) (c .fetch-name .ensures)
+returns-3 c = rw (← c .before .before .before .before .before .before .before .passed .ensures, c .before .before .before .before .before .enum-told .given .1, ← c .before .before .before .before .counter-refused .ensures, c .before .before .before .if1 .left, ← c .before .before .counted .ensures, c .before .if2 .taken) (c .fetch-counted .ensures)
 
 fetch-pattern-requires : tie.Need-fetch-pattern-requires
 fetch-pattern-requires c κs = search needs
@@ -70,7 +70,7 @@ ppu-fetch-spec =
     refuse-requires-2
     returns-2
     counted-requires
-    fetch-name-requires
+    fetch-counted-requires
     returns-3
     fetch-pattern-requires
     returns-4

@@ -24,12 +24,12 @@ page-at-requires c κs = search needs
 counted-requires : tie.Need-counted-requires
 counted-requires c κs = search needs
 
-name-served-requires : tie.Need-name-served-requires
-name-served-requires c κs = search needs
+counted-served-requires : tie.Need-counted-served-requires
+counted-served-requires c κs = search needs
 
 returns-2 : tie.Need-returns-2
 unfolding ppuPeek
-returns-2 c = rw (← c .before .before .before .before .before .before .before .passed .ensures, c .before .before .before .before .before .enum-told .given .1, ← c .before .before .counted .ensures, c .before .if1 .taken, ← c .before .before .before .page-at .ensures) (c .name-served .ensures)
+returns-2 c = rw (← c .before .before .before .before .before .before .before .passed .ensures, c .before .before .before .before .before .enum-told .given .1, ← c .before .before .counted .ensures, c .before .if1 .taken, ← c .before .before .before .page-at .ensures) (c .counted-served .ensures)
 
 pattern-served-requires : tie.Need-pattern-served-requires
 pattern-served-requires c κs = search needs
@@ -52,7 +52,7 @@ ppu-peek-spec =
     enum-told
     page-at-requires
     counted-requires
-    name-served-requires
+    counted-served-requires
     returns-2
     pattern-served-requires
     returns-3

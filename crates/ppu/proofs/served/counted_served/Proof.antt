@@ -1,8 +1,8 @@
 -- Each `return` stands behind the tests of what is served before it.
 use borrow.Author.Needs.{needs}
-use Rattle.ppu.specs.Served.{nameServed}
-use Rattle.ppu.proofs.served.name_served.Statement.{statement}
-use Rattle.ppu.proofs.served.name_served.Tie as tie
+use Rattle.ppu.specs.Served.{countedServed}
+use Rattle.ppu.proofs.served.counted_served.Statement.{statement}
+use Rattle.ppu.proofs.served.counted_served.Tie as tie
 
 nametable-use-requires : tie.Need-nametable-use-requires
 nametable-use-requires c κs = search needs
@@ -20,7 +20,7 @@ split-byte-requires : tie.Need-split-byte-requires
 split-byte-requires c κs = search needs
 
 returns : tie.Need-returns
-unfolding nameServed
+unfolding countedServed
 returns c = rw (← c .before .before .before .before .before .before .nametable-use .ensures, ← c .before .before .before .before .active .ensures, c .before .before .if1 .taken, c .split-byte .ensures, c .before .name-fetch .ensures)
 
 sprite-fetch-requires : tie.Need-sprite-fetch-requires
@@ -39,7 +39,7 @@ mirrored-requires : tie.Need-mirrored-requires
 mirrored-requires c κs = search needs
 
 returns-2 : tie.Need-returns-2
-unfolding nameServed
+unfolding countedServed
 returns-2 c = rw (← c .before .before .before .before .before .before .before .before .before .before .nametable-use .ensures, ← c .before .before .before .before .before .before .before .before .active .ensures, c .before .before .before .before .before .before .if1 .left, ← c .before .before .before .before .attribute-use .ensures, ← c .before .before .before .before .before .before .before .before .before .attribute-address .ensures, ← c .before .before .before .before .before .sprite-fetch .ensures, c .before .before .before .if2 .taken, c .mirrored .ensures, c .before .byte .ensures)
 
 cast-selector-of : tie.Need-cast-selector-of
@@ -52,15 +52,15 @@ fill-byte-requires : tie.Need-fill-byte-requires
 fill-byte-requires c κs = search needs
 
 returns-3 : tie.Need-returns-3
-unfolding nameServed
+unfolding countedServed
 returns-3 c = rw (← c .before .before .before .before .before .before .before .before .before .before .nametable-use .ensures, ← c .before .before .before .before .before .before .before .before .active .ensures, c .before .before .before .before .before .before .if1 .left, ← c .before .before .before .before .attribute-use .ensures, ← c .before .before .before .before .before .before .before .before .before .attribute-address .ensures, ← c .before .before .before .before .before .sprite-fetch .ensures, c .before .before .before .if2 .left, ← c .before .before .selector-of .ensures, c .before .if3 .taken, c .fill-byte .ensures)
 
 returns-4 : tie.Need-returns-4
-unfolding nameServed
+unfolding countedServed
 returns-4 c = rw (← c .before .before .before .before .before .before .before .before .before .nametable-use .ensures, ← c .before .before .before .before .before .before .before .active .ensures, c .before .before .before .before .before .if1 .left, ← c .before .before .before .attribute-use .ensures, ← c .before .before .before .before .before .before .before .before .attribute-address .ensures, ← c .before .before .before .before .sprite-fetch .ensures, c .before .before .if2 .left, ← c .before .selector-of .ensures, c .if3 .left)
 
-pub name-served-spec : {M : Type 1} → statement M
-name-served-spec =
+pub counted-served-spec : {M : Type 1} → statement M
+counted-served-spec =
     tie.close
     (tie.spec
     nametable-use-requires

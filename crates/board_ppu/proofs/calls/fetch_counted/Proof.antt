@@ -1,12 +1,12 @@
 -- The ranges and that refusal 7 was not given meet what the callees require (`ranges-kept`); each group is what its callee says.
 use borrow.Author.Needs.{needs}
-use Rattle.board_ppu.specs.Fetch.{nameCall}
+use Rattle.board_ppu.specs.Fetch.{countedCall}
 use Rattle.ppu.specs.Fetches.{ppuSeen}
 use Rattle.scanline.proofs.RangeLaws.{ranges-kept}
 use Rattle.scanline.specs.Steps.{seenAt}
 use Rattle.state.proofs.RangeLaws.{ranged}
-use Rattle.board_ppu.proofs.calls.fetch_name.Statement.{statement}
-use Rattle.board_ppu.proofs.calls.fetch_name.Tie as tie
+use Rattle.board_ppu.proofs.calls.fetch_counted.Statement.{statement}
+use Rattle.board_ppu.proofs.calls.fetch_counted.Tie as tie
 
 seen-requires : tie.Need-seen-requires
 seen-requires c κs = ranges-kept .line-fits _ (ranged _ (c .before .before .before .before .before .before .pre .0) .detector)
@@ -31,21 +31,21 @@ refuse-requires : tie.Need-refuse-requires
 refuse-requires c κs = search needs
 
 returns : tie.Need-returns
-unfolding nameCall
+unfolding countedCall
 returns c = rw (← c .before .before .before .before .before .before .before .before .seen .ensures, ← c .before .before .before .before .before .before .before .ppu-seen .ensures, ← c .before .before .before .before .before .before .split-seen .ensures, ← c .before .before .before .before .before .nametable-use .ensures, ← c .before .before .before .before .active .ensures, ← c .before .before .before .address-refused .ensures, c .before .if1 .taken) (c .refuse .ensures)
 
 page-at-requires : tie.Need-page-at-requires
 page-at-requires c κs = search needs
 
-name-served-requires : tie.Need-name-served-requires
-name-served-requires c κs = search needs
+counted-served-requires : tie.Need-counted-served-requires
+counted-served-requires c κs = search needs
 
 returns-2 : tie.Need-returns-2
-unfolding nameCall
-returns-2 c = rw (← c .before .before .before .before .before .before .before .before .before .before .seen .ensures, ← c .before .before .before .before .before .before .before .before .before .ppu-seen .ensures, ← c .before .before .before .before .before .before .before .before .split-seen .ensures, ← c .before .before .before .before .before .before .before .nametable-use .ensures, ← c .before .before .before .before .before .before .active .ensures, ← c .before .before .before .before .before .address-refused .ensures, c .before .before .before .if1 .left, c .name-served .ensures, c .before .page-at .ensures)
+unfolding countedCall
+returns-2 c = rw (← c .before .before .before .before .before .before .before .before .before .before .seen .ensures, ← c .before .before .before .before .before .before .before .before .before .ppu-seen .ensures, ← c .before .before .before .before .before .before .before .before .split-seen .ensures, ← c .before .before .before .before .before .before .before .nametable-use .ensures, ← c .before .before .before .before .before .before .active .ensures, ← c .before .before .before .before .before .address-refused .ensures, c .before .before .before .if1 .left, c .counted-served .ensures, c .before .page-at .ensures)
 
-pub fetch-name-spec : {M : Type 1} → statement M
-fetch-name-spec =
+pub fetch-counted-spec : {M : Type 1} → statement M
+fetch-counted-spec =
     tie.close
     (tie.spec
     seen-requires
@@ -57,5 +57,5 @@ fetch-name-spec =
     refuse-requires
     returns
     page-at-requires
-    name-served-requires
+    counted-served-requires
     returns-2)
