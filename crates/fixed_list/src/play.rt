@@ -1,50 +1,10 @@
 // A trace, played record by record over a board that is loaded first.
 use crate::lines;
 use answers::Answer;
-use board::Outcome;
 use registers::Mirroring;
 use state::State;
 use trace::Call;
 use trace::Found;
-
-// The call of a record.
-fn called(
-    s: State,
-    prg: &[u8],
-    chr: &mut [u8],
-    ram: &mut [u8],
-    ciram: &mut [u8],
-    exram: &mut [u8],
-    call: Call,
-) -> Outcome {
-    match call {
-        Call::Clock => board::clocks::clock(s),
-        Call::CpuRead(addr) => board::cpu_side::cpu_read(s, prg, chr, ram, ciram, exram, addr),
-        Call::CpuWrite(addr, val) => board::cpu_side::cpu_write(
-            s,
-            prg,
-            chr,
-            ram,
-            ciram,
-            exram,
-            addr,
-            val,
-        ),
-        Call::PpuRegister(addr, val) => board::ppu_registers::ppu_register(s, addr, val),
-        Call::PpuFetch(addr) => board_ppu::calls::ppu_fetch(s, prg, chr, ram, ciram, exram, addr),
-        Call::Reset => board::whole::reset(s),
-        Call::PpuWrite(addr, val) => board_ppu::stores::ppu_write(
-            s,
-            prg,
-            chr,
-            ram,
-            ciram,
-            exram,
-            addr,
-            val,
-        ),
-    }
-}
 
 // What is left after a record: whether the replay goes on, from which place, over which state.
 struct Turn {
@@ -95,7 +55,7 @@ fn played(
             }
         }
         Found::Record(call, next) => {
-            let outcome = called(s, prg, chr, ram, ciram, exram, call);
+            let outcome = calls::call_on(s, prg, chr, ram, ciram, exram, call);
             let answer = outcome.answer;
             let after = outcome.state;
             let going = told(count, call, answer, after);
