@@ -1,12 +1,14 @@
 -- Calls on the state alone: they ask only for its ranges (refusal 5).
 use Prim.Native.Nat.{ℕ, _/_, _%_}
-use mathlib.Core.Bool.{Bool, not}
+use mathlib.Core.Bool.{Bool, not, _&&_}
 use lib.Dec.{eqb}
 use Rattle.memory.specs.Words.{pick}
 use Rattle.answers.specs.declared.Answer.the-variants.{Nothing}
 use Rattle.answers.specs.declared.Refusal.the-variants.{State as StateBroken}
 use Rattle.registers.specs.declared.Regs.{Regs}
+use Rattle.scanline.specs.declared.Detector.{Detector}
 use Rattle.scanline.specs.Steps.{interruptUp, clocked, broken}
+use Rattle.state.specs.declared.PpuStatus.{PpuStatus}
 use Rattle.state.specs.declared.State.{State}
 use Rattle.state.specs.Ranges.{inRange}
 use Rattle.state.specs.With.{withRegs, withIrq, withPpu, withSprite8x16, withRendering}
@@ -40,11 +42,17 @@ clockCall s = pick (not (inRange s)) (refused s StateBroken) (outcome Nothing (w
 abbrev pub dark : ℕ → Bool
 dark v = eqb (v / 8 % 4) 0
 
-unfoldable pub toldPpu : State → ℕ → ℕ → State
-toldPpu s a v =
-    pick (eqb a 0x2000) (withPpu s (withSprite8x16 (s .ppu) (eqb (v / 32 % 2) 1)))
-    (pick (eqb a 0x2001) (withIrq (withPpu s (withRendering (s .ppu) (not (dark v)))) (pick (dark v) (broken (s .irq)) (s .irq)))
-    s)
+unfoldable pub statusTold : PpuStatus → ℕ → ℕ → PpuStatus
+statusTold p a v =
+    pick (eqb a 0x2000) (withSprite8x16 p (eqb (v / 32 % 2) 1))
+    (pick (eqb a 0x2001) (withRendering p (not (dark v)))
+    p)
+
+unfoldable pub detectorTold : Detector → ℕ → ℕ → Detector
+detectorTold d a v = pick (eqb a 0x2001 && dark v) (broken d) d
+
+abbrev pub toldPpu : State → ℕ → ℕ → State
+toldPpu s a v = withIrq (withPpu s (statusTold (s .ppu) a v)) (detectorTold (s .irq) a v)
 
 unfoldable pub ppuRegisterCall : State → ℕ → ℕ → Outcome
 ppuRegisterCall s a v = pick (not (inRange s)) (refused s StateBroken) (outcome Nothing (toldPpu s a v))

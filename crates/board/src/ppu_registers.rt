@@ -1,35 +1,39 @@
 // PPU register writes, on the state alone.
 ghost use mathlib.Core.Path.{_≡_};
-ghost use Rattle.board.specs.Whole.{toldPpu, ppuRegisterCall};
+ghost use Rattle.board.specs.Whole.{statusTold, detectorTold, ppuRegisterCall};
 use crate::Outcome;
 use crate::refuse;
 use answers::Answer;
 use answers::Refusal;
 use memory::CpuAddr;
+use scanline::Detector;
+use state::PpuStatus;
 use state::State;
 
-// $2000 tells the sprites' size, $2001 whether the PPU renders; where it does not, that is a break. The registers' mirrors do nothing.
-fn told_ppu(s: State, addr: u16, val: u8) -> State
-    ensures { λ r. ⌜ r ≡ toldPpu s addr val ⌝ }
+// $2000 tells the sprites' size, $2001 whether the PPU renders. The registers' mirrors do nothing.
+pub fn status_told(p: PpuStatus, addr: u16, val: u8) -> PpuStatus
+    ensures { λ r. ⌜ r ≡ statusTold p addr val ⌝ }
 {
-    let mut t = s;
+    let mut next = p;
     if addr == 0x2000 {
-        let tall = val / 32 % 2 == 1;
-        t.ppu.sprite8x16 = tall;
-        return t;
+        next.sprite8x16 = val / 32 % 2 == 1;
+        return next;
     }
-    if addr != 0x2001 {
-        return t;
+    if addr == 0x2001 {
+        next.rendering = val / 8 % 4 != 0;
+        return next;
     }
-    let dark = val / 8 % 4 == 0;
-    let lit = !dark;
-    t.ppu.rendering = lit;
-    if dark {
-        let irq = scanline::darkened(s.irq);
-        t.irq = irq;
-        return t;
+    next
+}
+
+// Where the PPU is told not to render, that is a break.
+pub fn detector_told(d: Detector, addr: u16, val: u8) -> Detector
+    ensures { λ r. ⌜ r ≡ detectorTold d addr val ⌝ }
+{
+    if (addr == 0x2001) & (val / 8 % 4 == 0) {
+        return scanline::darkened(d);
     }
-    t
+    d
 }
 
 // A PPU register write.
@@ -41,7 +45,11 @@ pub fn ppu_register(s: State, addr: CpuAddr, val: u8) -> Outcome
         return refuse(s, Refusal::State);
     }
     let a = addr.0;
-    let t = told_ppu(s, a, val);
+    let ppu = status_told(s.ppu, a, val);
+    let irq = detector_told(s.irq, a, val);
+    let mut t = s;
+    t.ppu = ppu;
+    t.irq = irq;
     Outcome {
         answer: Answer::Nothing,
         state: t,

@@ -48,7 +48,7 @@ fn fetch_counted(
 }
 
 // The set that the table holds is not the one wanted.
-fn set_changed(before: bool, after: bool) -> bool
+pub fn set_changed(before: bool, after: bool) -> bool
     ensures { λ r. ⌜ r ≡ setChanged before after ⌝ }
 {
     (before & !after) | (!before & after)

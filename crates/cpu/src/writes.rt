@@ -15,7 +15,7 @@ use state::Screen;
 use state::State;
 
 // PRG mode, protection and PRG banks.
-fn maps_prg(addr: u16) -> bool
+pub fn maps_prg(addr: u16) -> bool
     ensures { λ r. ⌜ r ≡ mapsPrg addr ⌝ }
 {
     (addr == 0x5100)
@@ -23,7 +23,7 @@ fn maps_prg(addr: u16) -> bool
 }
 
 // CHR mode, CHR banks and the upper CHR bits.
-fn maps_chr(addr: u16) -> bool
+pub fn maps_chr(addr: u16) -> bool
     ensures { λ r. ⌜ r ≡ mapsChr addr ⌝ }
 {
     (addr == 0x5101) | (groups::is_within(0x5120, 0x512B, addr) | (addr == 0x5130))

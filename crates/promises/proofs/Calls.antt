@@ -1,6 +1,7 @@
 -- Every call on a state in range leaves it in range, and the recorded lengths as they were.
-use Prim.Native.Nat.{ℕ, _+_, _*_, _/_, _%_, _<_, _≤_}
-use mathlib.Core.Bool.{Bool, true, false, _||_}
+use Rattle.scanline.specs.Ranges.{rangesOk as detectorOk}
+use Prim.Native.Nat.{ℕ}
+use mathlib.Core.Bool.{Bool, true, false, _||_, _&&_}
 use mathlib.Core.List.{List}
 use mathlib.Core.Path.{_≡_, refl}
 use native.Mathlib.Omega.{arith}
@@ -8,22 +9,18 @@ use lib.Dec.{eqb, leb}
 use lib.ListN.{replicate}
 use Rattle.memory.specs.declared.PageWord.{PageWord}
 use Rattle.memory.specs.Tables.{all, prgShowsAs, chrShowsAs, prgTableOk, chrTableOk}
-use Rattle.memory.specs.Words.{pick, word, pageOf}
+use Rattle.memory.specs.Words.{word, pageOf}
 use Rattle.memory.proofs.Tests.{pick-keeps}
 use Rattle.registers.specs.declared.Mirroring.{Mirroring}
 use Rattle.registers.specs.declared.Regs.{Regs}
 use Rattle.registers.specs.Registers.{written, nametableUse, rangesOk as regsOk}
-use Rattle.registers.proofs.RangeLaws.{Ranges, ranges-say, ranges-hold, loaded-in-range, write-keeps}
-use Rattle.banks.specs.Prg.{prgMapped, exramPage}
-use Rattle.banks.specs.Chr.{chrMapped}
-use Rattle.banks.specs.Names.{namesMapped}
+use Rattle.registers.proofs.RangeLaws.{ranges-say, ranges-hold, loaded-in-range, write-keeps}
 use Rattle.scanline.specs.declared.Detector.{Detector}
-use Rattle.scanline.specs.Ranges.{rangesOk as detectorOk}
 use Rattle.scanline.specs.Tiles.{tilesOk}
-use Rattle.scanline.specs.Steps.{targeted, enabledBy, statusRead, vectorRead, clocked, broken}
+use Rattle.scanline.specs.Steps.{clocked}
 use Rattle.scanline.proofs.RangeLaws.{ranges-kept}
 use Rattle.split.specs.declared.VSplit.{VSplit}
-use Rattle.split.specs.Control.{withControl, withScroll, withBank, splitRanges}
+use Rattle.split.specs.Control.{splitRanges}
 use Rattle.split.proofs.ControlLaws.{load-in-ranges, control-keeps-ranges, scroll-keeps-ranges, bank-keeps-ranges}
 use Rattle.state.specs.declared.Lengths.{Lengths}
 use Rattle.state.specs.declared.PpuStatus.{PpuStatus}
@@ -31,14 +28,14 @@ use Rattle.state.specs.declared.State.{State}
 use Rattle.state.specs.Lengths.{lengthsOk}
 use Rattle.state.specs.Ranges.{inRange}
 use Rattle.state.specs.With.{withIrq, withRegs, withPpu}
-use Rattle.state.proofs.RangeLaws.{Ranged, ranged, in-range}
-use Rattle.state.proofs.SizeLaws.{Taken, lengths-say}
+use Rattle.state.proofs.RangeLaws.{ranged, in-range}
+use Rattle.state.proofs.SizeLaws.{lengths-say}
 use Rattle.cpu.specs.Chosen.{chosen, ppuAfter}
 use Rattle.cpu.specs.Groups.{within, splitAfter, irqAfter}
 use Rattle.cpu.specs.Reads.{irqRead}
 use Rattle.cpu.specs.Writes.{mapsPrg, mapsChr, mapsNames, prgPagesAfter, chrPagesAfter, registerWritten}
 use Rattle.board.specs.Loads.{loadedState}
-use Rattle.board.specs.Whole.{resetRegs, toldPpu, dark}
+use Rattle.board.specs.Whole.{resetRegs, statusTold, detectorTold, toldPpu, dark}
 use Rattle.promises.proofs.Mapped.{Mappable, windows-keep, exram-keeps, chr-keeps, names-keep}
 
 pub mappable : (z : Lengths) → lengthsOk z ≡ true → Mappable (z .prg) (z .chr) (z .ram)
@@ -115,6 +112,9 @@ write-keeps-range s a v h =
 -- The other calls ---------------------------------------------------------------------------------------------------------------------
 
 -- A state with other registers, another detector and another PPU status, each in range.
+abbrev StatusOk : PpuStatus → Type 0
+StatusOk p = (leb (p .«tile_cache») 1023 ≡ true) × (tilesOk (p .«tile_number») ≡ true)
+
 groups-keep-range : (s : State) (g : Regs) (d : Detector) (p : PpuStatus) → inRange s ≡ true → regsOk g ≡ true → Sound d → leb (p .«tile_cache») 1023 ≡ true → tilesOk (p .«tile_number») ≡ true
     → inRange (withPpu (withIrq (withRegs s g) d) p) ≡ true
 groups-keep-range s g d p h hg hd hc ht =
@@ -157,14 +157,19 @@ pub reset-keeps-range : (s : State) → inRange s ≡ true → inRange (withRegs
 reset-keeps-range s h = let r = ranged s h in groups-keep-range s (resetRegs (s .regs)) (s .irq) (s .ppu) h (reset-regs-keep (s .regs) (r .regs)) (r .detector) (r .cache) (r .tiles)
 
 -- The sprites' size and rendering have no range; a break keeps the detector's.
+status-keeps : (p : PpuStatus) (a v : ℕ) → StatusOk p → StatusOk (statusTold p a v)
+unfolding statusTold
+status-keeps p a v h = pick-keeps StatusOk (eqb a 0x2000) h (pick-keeps StatusOk (eqb a 0x2001) h h)
+
+detector-keeps : (d : Detector) (a v : ℕ) → Sound d → Sound (detectorTold d a v)
+unfolding detectorTold
+detector-keeps d a v h = pick-keeps Sound (eqb a 0x2001 && dark v) (ranges-kept .darkened d h) h
+
 pub register-keeps-range : (s : State) (a v : ℕ) → inRange s ≡ true → inRange (toldPpu s a v) ≡ true
-unfolding toldPpu
 register-keeps-range s a v h =
     let r = ranged s h in
-    pick-keeps (λ (t : State). inRange t ≡ true) (eqb a 0x2000) (groups-keep-range s (s .regs) (s .irq) _ h (r .regs) (r .detector) (r .cache) (r .tiles))
-    (pick-keeps (λ (t : State). inRange t ≡ true) (eqb a 0x2001)
-    (groups-keep-range s (s .regs) (pick (dark v) (broken (s .irq)) (s .irq)) _ h (r .regs) (pick-keeps Sound (dark v) (ranges-kept .darkened (s .irq) (r .detector)) (r .detector)) (r .cache) (r .tiles))
-    h)
+    let p = status-keeps (s .ppu) a v (r .cache, r .tiles) in
+    groups-keep-range s (s .regs) (detectorTold (s .irq) a v) (statusTold (s .ppu) a v) h (r .regs) (detector-keeps (s .irq) a v (r .detector)) (p .0) (p .1)
 
 -- Load: tables of blank pages are in range, and mapping keeps them so.
 blank-prg : (prg ram : ℕ) → prgTableOk prg ram (replicate 64 (word 0)) ≡ true

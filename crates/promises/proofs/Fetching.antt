@@ -1,22 +1,21 @@
 -- The PPU's calls: a fetch keeps the ranges, and is refused for refusal 7 alone.
-use Prim.Native.Nat.{ℕ, _+_, _*_, _/_, _%_, _≤_, _<_}
-use mathlib.Core.Bool.{Bool, true, false, _&&_, not}
+use Prim.Native.Nat.{ℕ, _%_}
+use mathlib.Core.Bool.{true, false, _&&_, not}
 use mathlib.Core.List.{List}
-use mathlib.Core.Path.{_≡_, refl, sym, _∙_}
+use mathlib.Core.Path.{_≡_, refl}
 use native.Mathlib.Omega.{arith}
 use borrow.Author.Tests.{le-leb}
-use lib.Dec.{eqb, leb, ltb}
+use lib.Dec.{leb, ltb}
 use Rattle.memory.specs.declared.PageWord.{PageWord}
 use Rattle.memory.specs.Bytes.{Mem}
 use Rattle.memory.specs.Tables.{chrTableOk}
-use Rattle.memory.specs.Words.{pick}
 use Rattle.memory.proofs.Tests.{split, pick-keeps, and-false}
 use Rattle.registers.specs.declared.Regs.{Regs}
 use Rattle.registers.specs.Registers.{attributeUse, nametableUse}
 use Rattle.scanline.specs.Fetches.{countedAt, attributeAt, nameAt}
 use Rattle.scanline.specs.Ranges.{counterRefused}
 use Rattle.scanline.specs.Steps.{seenAt}
-use Rattle.scanline.specs.Tiles.{tilesOk, spriteFetch, isPrefetched, raisedBy}
+use Rattle.scanline.specs.Tiles.{spriteFetch, isPrefetched, raisedBy}
 use Rattle.scanline.proofs.RangeLaws.{ranges-kept}
 use Rattle.split.specs.declared.VSplit.{VSplit}
 use Rattle.split.specs.Control.{splitActive, splitRanges, splitRefused}
@@ -26,14 +25,14 @@ use Rattle.state.specs.declared.gate.Gate.the-variants.{Open}
 use Rattle.state.specs.declared.State.{State}
 use Rattle.state.specs.Gate.{gateMem}
 use Rattle.state.specs.Ranges.{inRange}
-use Rattle.state.proofs.RangeLaws.{Ranged, ranged, in-range}
+use Rattle.state.proofs.RangeLaws.{ranged, in-range}
 use Rattle.cpu.specs.Chosen.{chosen}
 use Rattle.ppu.specs.Fetches.{cacheAfter, ppuSeen, splitSeen}
-use Rattle.ppu.specs.Served.{splitServes, countedServed, patternServed}
+use Rattle.ppu.specs.Served.{splitServes}
 use Rattle.board_ppu.specs.Fetch.{countedIrq, countedPpu, countedSplit, countedState, countedCall, setChanged, patternPages, patternPpu, patternState, patternCall, ppuFetch}
-use Rattle.board_ppu.specs.Peeks.{chrAnswer, ppuWrite}
+use Rattle.board_ppu.specs.Peeks.{ppuWrite}
 use Rattle.promises.proofs.Calls.{mappable}
-use Rattle.promises.proofs.Gates.{SameSizes, same, in-range-of, stays, page-stored-sizes}
+use Rattle.promises.proofs.Gates.{same, in-range-of, stays, page-stored-sizes}
 use Rattle.promises.proofs.Mapped.{chr-keeps}
 
 -- The tile cache holds ten bits.

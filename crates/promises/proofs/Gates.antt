@@ -1,26 +1,25 @@
 -- The gate stays open: a call keeps the ranges, the recorded lengths and the lengths of the buffers.
 use Prim.Native.Nat.{ℕ, _-_}
-use mathlib.Core.Bool.{Bool, true, false, not, _&&_}
+use mathlib.Core.Bool.{Bool, true, not, _&&_}
 use mathlib.Core.List.{List}
-use mathlib.Core.Path.{_≡_, refl, sym, ap, _∙_}
+use mathlib.Core.Path.{_≡_, refl, _∙_}
 use native.Mathlib.Omega.{arith}
 use borrow.Author.Tests.{not-false, eq-eqb}
 use lib.Dec.{eqb, leb}
-use lib.ListN.{length, set, length-set}
+use lib.ListN.{length, length-set}
 use Rattle.memory.specs.declared.Page.{Page}
 use Rattle.memory.specs.declared.Src.{Src}
 use Rattle.memory.specs.declared.Src.the-variants.{Blank, PrgRom, PrgRam, Chr, CiRam, ExRam}
-use Rattle.memory.specs.Bytes.{Mem, memOf, offsetOf, storedAt, pageStored}
+use Rattle.memory.specs.Bytes.{Mem, memOf, storedAt, pageStored}
 use Rattle.memory.specs.Words.{pick, pageOf}
 use Rattle.memory.proofs.Tests.{split, pick-keeps}
-use Rattle.answers.specs.declared.Answer.{Answer}
 use Rattle.answers.specs.declared.Answer.the-variants.{Nothing, Refused}
 use Rattle.answers.specs.declared.Refusal.{Refusal}
 use Rattle.registers.specs.declared.Mirroring.{Mirroring}
 use Rattle.state.specs.declared.gate.Gate.the-variants.{Open}
 use Rattle.state.specs.declared.State.{State}
-use Rattle.state.specs.Gate.{sameLengths, gateOf, gateMem}
-use Rattle.state.specs.Lengths.{prgTaken, chrTaken, ramTaken, lengthsOk}
+use Rattle.state.specs.Gate.{sameLengths, gateMem}
+use Rattle.state.specs.Lengths.{prgTaken, chrTaken, ramTaken}
 use Rattle.state.specs.Ranges.{inRange}
 use Rattle.state.proofs.GateLaws.{open-in-range, open-same-lengths, passes}
 use Rattle.state.proofs.SizeLaws.{lengths-hold}
@@ -29,7 +28,6 @@ use Rattle.cpu.specs.Reads.{audioRead}
 use Rattle.cpu.specs.Writes.{latched, prgWordAt, registerWritten, cpuStored, audioWrite}
 use Rattle.board.specs.CpuSide.{cpuRead, cpuWrite}
 use Rattle.board.specs.Loads.{recorded, loadedState, loadCall}
-use Rattle.board.specs.Outcomes.{After}
 use Rattle.board.specs.Whole.{toldPpu, resetCall, clockCall, ppuRegisterCall}
 use Rattle.promises.proofs.Calls.{write-keeps-range, read-keeps-range, clock-keeps-range, reset-keeps-range, register-keeps-range, load-in-range}
 
@@ -89,8 +87,7 @@ unfolding registerWritten
 written-lengths s a v = refl
 
 told-lengths : (s : State) (a v : ℕ) → toldPpu s a v .lengths ≡ s .lengths
-unfolding toldPpu
-told-lengths s a v = pick-keeps (λ (t : State). t .lengths ≡ s .lengths) (eqb a 0x2000) refl (pick-keeps (λ (t : State). t .lengths ≡ s .lengths) (eqb a 0x2001) refl refl)
+told-lengths s a v = refl
 
 eqb-same : (n : ℕ) → eqb n n ≡ true
 eqb-same n = eq-eqb n n refl

@@ -1,8 +1,8 @@
 -- Mapping puts into a page table only what the table may show.
-use Prim.Native.Nat.{ℕ, zero, suc, _+_, _*_, _/_, _%_, _<_, _≤_}
-use mathlib.Core.Bool.{Bool, true, false, _&&_, _||_, not}
+use Prim.Native.Nat.{ℕ, zero, suc, _+_, _*_, _/_, _%_, _≤_}
+use mathlib.Core.Bool.{Bool, true, false, _||_, not}
 use mathlib.Core.List.{List, [], _∷_, map}
-use mathlib.Core.Path.{_≡_, refl, sym, ap, _∙_}
+use mathlib.Core.Path.{_≡_, refl}
 use native.Mathlib.Omega.{arith}
 use borrow.Author.Tests.{le-leb, lt-ltb, eq-eqb, eqb-true, eqb-false}
 use lib.Dec.{eqb, leb, ltb}
@@ -10,17 +10,16 @@ use lib.ListN.{getD, set}
 use Rattle.memory.specs.declared.Page.{Page}
 use Rattle.memory.specs.declared.PageWord.{PageWord}
 use Rattle.memory.specs.declared.Src.{Src}
-use Rattle.memory.specs.declared.Src.the-variants.{Blank, PrgRom, PrgRam, Chr, CiRam, ExRam}
-use Rattle.memory.specs.Tables.{whole, prgShows, prgShowsAs, chrShows, chrShowsAs, all, prgTableOk, chrTableOk}
-use Rattle.memory.specs.Windows.{pageStart, windowPage, windowWord, prgWindow, chrWindow}
-use Rattle.memory.specs.Words.{pick, word, page, blank, named, namedAs, numberOf, wordOf, pageOf}
+use Rattle.memory.specs.declared.Src.the-variants.{PrgRom, PrgRam, Chr, CiRam, ExRam}
+use Rattle.memory.specs.Tables.{prgShows, prgShowsAs, chrShows, chrShowsAs, all, prgTableOk, chrTableOk}
+use Rattle.memory.specs.Windows.{pageStart, windowPage, windowWord, chrWindow}
+use Rattle.memory.specs.Words.{word, page, blank, named, namedAs, wordOf, pageOf}
 use Rattle.memory.proofs.Tests.{split, and-left, and-right, and-both, pick-keeps}
 use Rattle.memory.proofs.WindowLaws.{page-inside, shown-page}
 use Rattle.memory.proofs.WordLaws.{making-is-undone}
 use Rattle.registers.specs.declared.Regs.{Regs}
 use Rattle.banks.specs.Chr.{chrNumber, chrMapped}
 use Rattle.banks.specs.Names.{selector, namePage, namesMapped}
-use Rattle.banks.specs.Placed.{placed}
 use Rattle.banks.specs.Prg.{prgShown, ramBank, windowsMapped, exramPage}
 use Rattle.banks.proofs.PlacedLaws.{all-set, all-placed}
 

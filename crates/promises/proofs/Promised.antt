@@ -1,5 +1,5 @@
 -- The two promises, put together from the laws of each call.
-use Prim.Native.Nat.{ℕ, _*_, _+_, _/_, _%_}
+use Prim.Native.Nat.{ℕ, _/_}
 use mathlib.Core.Bool.{Bool, true, false, _&&_, _||_, not}
 use mathlib.Core.List.{List}
 use mathlib.Core.Path.{_≡_, refl}
@@ -25,7 +25,7 @@ use Rattle.state.specs.declared.gate.Gate.the-variants.{Open}
 use Rattle.state.specs.declared.PpuStatus.{PpuStatus}
 use Rattle.state.specs.declared.State.{State}
 use Rattle.state.specs.Gate.{gateMem}
-use Rattle.cpu.specs.Reads.{shownAs, pageAnswer, cpuAnswer, audioRead}
+use Rattle.cpu.specs.Reads.{pageAnswer, cpuAnswer, audioRead}
 use Rattle.ppu.specs.Served.{splitServes, countedServed, patternServed}
 use Rattle.board.specs.declared.Interrupt.the-variants.{Up, Down}
 use Rattle.board.specs.declared.Outcome.{Outcome}

@@ -1,30 +1,24 @@
 -- Who is refused: behind an open gate only audio registers are.
 use Prim.Native.Nat.{ℕ}
-use mathlib.Core.Bool.{Bool, true, false, not}
-use mathlib.Core.Path.{_≡_, refl, sym, ap, _∙_}
+use mathlib.Core.Bool.{Bool, true, false}
+use mathlib.Core.Path.{_≡_, refl}
 use lib.Dec.{eqb}
-use Rattle.memory.specs.declared.Page.{Page}
 use Rattle.memory.specs.declared.Src.{Src}
 use Rattle.memory.specs.declared.Src.the-variants.{Blank, PrgRom, PrgRam, Chr, CiRam, ExRam}
 use Rattle.memory.specs.Bytes.{Mem, pageByte}
 use Rattle.memory.specs.Words.{pick, pageOf}
-use Rattle.memory.proofs.Tests.{split, pick-keeps}
+use Rattle.memory.proofs.Tests.{pick-keeps}
 use Rattle.answers.specs.declared.Answer.{Answer}
-use Rattle.answers.specs.declared.Answer.the-variants.{Nothing, Refused}
-use Rattle.answers.specs.declared.Refusal.{Refusal}
+use Rattle.answers.specs.declared.Answer.the-variants.{Refused}
 use Rattle.answers.specs.declared.Refusal.the-variants.{Audio}
 use Rattle.state.specs.declared.gate.Gate.{Gate}
 use Rattle.state.specs.declared.gate.Gate.the-variants.{Open, Shut}
 use Rattle.state.specs.declared.State.{State}
-use Rattle.state.specs.Gate.{gateMem}
 use Rattle.cpu.specs.Groups.{within}
-use Rattle.cpu.specs.Reads.{shownAs, pageAnswer, registerRead, cpuAnswer, audioRead}
-use Rattle.cpu.specs.Writes.{prgWordAt, audioWrite}
-use Rattle.board.specs.CpuSide.{cpuRead, cpuPeek, cpuWrite}
+use Rattle.cpu.specs.Reads.{shownAs, pageAnswer, registerRead, cpuAnswer}
+use Rattle.cpu.specs.Writes.{prgWordAt}
 use Rattle.board.specs.Outcomes.{outcome, refused, behind}
-use Rattle.board.specs.Whole.{resetCall, clockCall, ppuRegisterCall}
 use Rattle.promises.specs.Refused.{isRefused}
-use Rattle.promises.proofs.Gates.{in-range-of}
 
 abbrev pub Given : Answer → Type 0
 Given a = isRefused a ≡ false

@@ -2,7 +2,6 @@
 use native.Mathlib.Omega.{arith}
 use borrow.Author.Needs.{needs}
 use Rattle.board.specs.Loads.{loadedState}
-use Rattle.scanline.proofs.new.Reads as new-reads′
 use Rattle.state.proofs.SizeLaws.{lengths-say}
 use Rattle.board.proofs.loads.loaded.Statement.{statement}
 use Rattle.board.proofs.loads.loaded.Tie as tie

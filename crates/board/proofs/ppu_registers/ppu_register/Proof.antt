@@ -1,6 +1,6 @@
--- The ranges, then what `told_ppu` says.
-use borrow.Author.Needs.{needs}
+-- The ranges, then what the two groups are told.
 use Rattle.board.specs.Whole.{ppuRegisterCall}
+use borrow.Author.Needs.{needs}
 use Rattle.board.proofs.ppu_registers.ppu_register.Statement.{statement}
 use Rattle.board.proofs.ppu_registers.ppu_register.Tie as tie
 
@@ -14,13 +14,23 @@ returns : tie.Need-returns
 unfolding ppuRegisterCall
 returns c = rw (← c .before .before .in-range .ensures, c .before .if1 .taken) (c .refuse .ensures)
 
-told-ppu-requires : tie.Need-told-ppu-requires
-told-ppu-requires c κs = search needs
+status-told-requires : tie.Need-status-told-requires
+status-told-requires c κs = search needs
+
+detector-told-requires : tie.Need-detector-told-requires
+detector-told-requires c κs = search needs
 
 returns-2 : tie.Need-returns-2
 unfolding ppuRegisterCall
-returns-2 c = rw (← c .before .before .in-range .ensures, c .before .if1 .left, c .told-ppu .ensures)
+returns-2 c = rw (← c .before .before .before .in-range .ensures, c .before .before .if1 .left, c .before .status-told .ensures, c .detector-told .ensures)
 
 pub ppu-register-spec : {M : Type 1} → statement M
 ppu-register-spec =
-    tie.close (tie.spec in-range-requires refuse-requires returns told-ppu-requires returns-2)
+    tie.close
+    (tie.spec
+    in-range-requires
+    refuse-requires
+    returns
+    status-told-requires
+    detector-told-requires
+    returns-2)
