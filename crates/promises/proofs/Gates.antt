@@ -69,7 +69,7 @@ latched-length : (mode : ℕ) (lit : Bool) (a v : ℕ) (l : List ℕ) → length
 unfolding latched
 latched-length mode lit a v l = pick-keeps (λ (k : List ℕ). length k ≡ length l) (within 0x5C00 0x5FFF a && leb mode 1) (length-set l (a - 0x5C00) (pick lit v 0)) refl
 
-cpu-stored-sizes : (s : State) (m : Mem) (a v : ℕ) → SameSizes m (cpuStored s m a v)
+pub cpu-stored-sizes : (s : State) (m : Mem) (a v : ℕ) → SameSizes m (cpuStored s m a v)
 unfolding cpuStored
 cpu-stored-sizes s m a v =
     let l = latched (s .regs .«exram_mode») (s .ppu .rendering) a v (m .exram) in

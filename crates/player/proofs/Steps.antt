@@ -1,0 +1,161 @@
+-- The loop over records: what holds at its head, and what one record does to that.
+use Prim.Native.Nat.{ℕ, zero, suc, _+_, _*_, _<_, _≤_}
+use mathlib.Core.Bool.{Bool, true, false, false≢true}
+use mathlib.Core.List.{List}
+use mathlib.Core.Path.{_≡_, refl, sym, _∙_}
+use native.Mathlib.Omega.{arith}
+use lib.ListN.{length, set, length-set}
+use Rattle.memory.specs.Bytes.{Mem}
+use Rattle.memory.proofs.Tests.{split}
+use Rattle.answers.specs.declared.Answer.{Answer}
+use Rattle.answers.specs.declared.Answer.the-variants.{Nothing, Register, Served, Page, Blank, Refused}
+use Rattle.answers.specs.declared.Refusal.{Refusal}
+use Rattle.answers.specs.Letters.{valueOf}
+use Rattle.scanline.specs.Steps.{interruptUp}
+use Rattle.state.specs.declared.gate.Gate.the-variants.{Open}
+use Rattle.state.specs.declared.State.{State}
+use Rattle.state.specs.Gate.{gateMem}
+use Rattle.cpu.specs.Writes.{audioWrite}
+use Rattle.board.specs.CpuSide.{cpuWrite}
+use Rattle.board.specs.Outcomes.{outcome, afterOf}
+use Rattle.board_ppu.specs.Peeks.{ppuWrite}
+use Rattle.trace.specs.declared.Call.{Call}
+use Rattle.trace.specs.declared.Call.the-variants.{Clock, CpuRead, CpuWrite, PpuRegister, PpuFetch, Reset, PpuWrite}
+use Rattle.trace.specs.declared.Found.the-variants.{End, Record, Refused as Unreadable}
+use Rattle.trace.specs.Records.{recordAt}
+use Rattle.trace.proofs.RecordLaws.{record-sound}
+use Rattle.calls.specs.Called.{called}
+use Rattle.promises.proofs.Gates.{SameSizes, same, page-stored-sizes, cpu-stored-sizes}
+use Rattle.promises.proofs.Promised.{gate-stays-open}
+use Rattle.promises.proofs.Refusals.{Given}
+use Rattle.player.specs.declared.Ending.the-variants.{Done, Stopped}
+use Rattle.player.specs.Logs.{logLetter, logged}
+use Rattle.player.specs.Replay.{Left, ended, answered, playedFrom, played}
+
+-- An answer that is no refusal goes on.
+answered-given : {A : Type 0} (a : Answer) (f : Refusal → A) (x : A) → Given a → answered a f x ≡ x
+answered-given Nothing f x g = refl
+answered-given (Register v) f x g = refl
+answered-given (Served v) f x g = refl
+answered-given (Page v) f x g = refl
+answered-given Blank f x g = refl
+answered-given (Refused r) f x g = absurd (false≢true (sym g))
+
+-- Every call keeps the gate open.
+pub call-open : (call : Call) (s : State) (m : Mem) → gateMem s m ≡ Open → gateMem (called call s m .out .state) (called call s m .mem) ≡ Open
+call-open Clock s m h = gate-stays-open .clock s m h
+call-open (CpuRead a) s m h = gate-stays-open .read s m (a .0) h
+call-open (CpuWrite a v) s m h = gate-stays-open .write s m (a .0) v h
+call-open (PpuRegister a v) s m h = gate-stays-open .register s m (a .0) v h
+call-open (PpuFetch a) s m h = gate-stays-open .fetch s m (a .0) h
+call-open Reset s m h = gate-stays-open .reset s m h
+call-open (PpuWrite a v) s m h = gate-stays-open .ppu-write s m (a .0) v h
+
+-- No call changes a buffer's length, nor does the log.
+call-sizes : (call : Call) (s : State) (m : Mem) → gateMem s m ≡ Open → SameSizes m (called call s m .mem)
+unfolding cpuWrite ppuWrite
+call-sizes Clock s m h = same m
+call-sizes (CpuRead a) s m h = same m
+call-sizes (CpuWrite a v) s m h = split (audioWrite (a .0)) (λ t. rw (h, t) (same m)) (λ f. rw (h, f) (cpu-stored-sizes s m (a .0) v))
+call-sizes (PpuRegister a v) s m h = same m
+call-sizes (PpuFetch a) s m h = same m
+call-sizes Reset s m h = same m
+call-sizes (PpuWrite a v) s m h = rw h (page-stored-sizes m _ (a .0) v)
+
+same-on : {l m n : Mem} → SameSizes l m → SameSizes m n → SameSizes l n
+same-on p q =
+    record { prg = q .prg ∙ p .prg; chr = q .chr ∙ p .chr; ram = q .ram ∙ p .ram; ciram = q .ciram ∙ p .ciram; exram = q .exram ∙ p .exram }
+
+logged-length : (log : List ℕ) (n : ℕ) (a : Answer) (up : Bool) → length (logged log n a up) ≡ length log
+unfolding logged
+logged-length log n a up = length-set (set log (2 * n) (logLetter a up)) (2 * n + 1) (valueOf a) ∙ length-set log (2 * n) (logLetter a up)
+
+-- At the loop's head: what is left to play, from here with so much fuel, is what the whole replay comes to.
+pub record Going (trace : List ℕ) (all : Left) (m₀ : Mem) (log₀ : List ℕ) (at count : ℕ) (s : State) (m : Mem) (log : List ℕ) : Type 0 where
+  pub fuel : ℕ
+  pub enough : length trace < fuel + at
+  pub inside : at ≤ length trace
+  pub counted : count ≤ at
+  pub short : length trace ≤ 8192
+  pub gate : gateMem s m ≡ Open
+  pub sizes : SameSizes m₀ m
+  pub log-size : length log ≡ length log₀
+  pub rest : playedFrom fuel trace at count s m log ≡ all
+
+-- The loop's invariant: that, and that the lent buffers have the lengths that they had.
+abbrev pub Kept : List ℕ → Left → Mem → List ℕ → ℕ → ℕ → State → Mem → List ℕ → Type 0
+Kept trace all m₀ log₀ at count s m log =
+    Going trace all m₀ log₀ at count s m log
+    × ((length (m .chr) ≡ length (m₀ .chr)) × ((length (m .ram) ≡ length (m₀ .ram)) × ((length (m .ciram) ≡ length (m₀ .ciram)) × ((length (m .exram) ≡ length (m₀ .exram)) × (length log ≡ length log₀)))))
+
+pub kept : {trace : List ℕ} {all : Left} {m₀ : Mem} {log₀ : List ℕ} {at count : ℕ} {s : State} {m : Mem} {log : List ℕ} → Going trace all m₀ log₀ at count s m log → Kept trace all m₀ log₀ at count s m log
+kept g = (g, (g .sizes .chr, (g .sizes .ram, (g .sizes .ciram, (g .sizes .exram, g .log-size)))))
+
+-- Buffers that are equal are as good.
+pub onto : {trace : List ℕ} {all : Left} {m₀ : Mem} {log₀ : List ℕ} {at count : ℕ} {s : State} {m n : Mem} {log : List ℕ} → m ≡ n → Going trace all m₀ log₀ at count s n log → Going trace all m₀ log₀ at count s m log
+onto e g = rw e g
+
+pub begins : (trace : List ℕ) (s : State) (m : Mem) (log : List ℕ) → length trace ≤ 8192 → gateMem s m ≡ Open → Going trace (played s trace m log) m log 0 0 s m log
+begins trace s m log short h =
+    record {
+      fuel = length trace + 1;
+      enough = omega arith;
+      inside = omega arith;
+      counted = omega arith;
+      short = short;
+      gate = h;
+      sizes = same m;
+      log-size = refl;
+      rest = refl;
+    }
+
+module _ (trace : List ℕ) (all : Left) (m₀ : Mem) (log₀ : List ℕ) (at count : ℕ) (s : State) (m : Mem) (log : List ℕ) where
+  ends-by : (fuel : ℕ) → length trace < fuel + at → at ≤ length trace → playedFrom fuel trace at count s m log ≡ all → recordAt trace at ≡ End → ended (Done count) s m log ≡ all
+  unfolding playedFrom
+  ends-by zero e i r p = absurd (omega (arith, e, i))
+  ends-by (suc n) e i r p = rw p at r
+
+  pub ends : Going trace all m₀ log₀ at count s m log → recordAt trace at ≡ End → ended (Done count) s m log ≡ all
+  ends g = ends-by (g .fuel) (g .enough) (g .inside) (g .rest)
+
+  unreadable-by : (why : Refusal) (fuel : ℕ) → length trace < fuel + at → at ≤ length trace → playedFrom fuel trace at count s m log ≡ all → recordAt trace at ≡ Unreadable why
+      → ended (Stopped at why) s m log ≡ all
+  unfolding playedFrom
+  unreadable-by why zero e i r p = absurd (omega (arith, e, i))
+  unreadable-by why (suc n) e i r p = rw p at r
+
+  pub unreadable : (why : Refusal) → Going trace all m₀ log₀ at count s m log → recordAt trace at ≡ Unreadable why → ended (Stopped at why) s m log ≡ all
+  unreadable why g = unreadable-by why (g .fuel) (g .enough) (g .inside) (g .rest)
+
+  module _ (call : Call) (next : ℕ) (found : recordAt trace at ≡ Record call next) where
+    stops-by : (why : Refusal) (t : State) (n : Mem) (fuel : ℕ) → length trace < fuel + at → at ≤ length trace → playedFrom fuel trace at count s m log ≡ all
+        → called call s m ≡ afterOf (outcome (Refused why) t) n → ended (Stopped at why) s m log ≡ all
+    unfolding playedFrom
+    stops-by why t n zero e i r p = absurd (omega (arith, e, i))
+    stops-by why t n (suc k) e i r p = rw (found, p) at r
+
+    pub stops : (why : Refusal) (t : State) (n : Mem) → Going trace all m₀ log₀ at count s m log → called call s m ≡ afterOf (outcome (Refused why) t) n → ended (Stopped at why) s m log ≡ all
+    stops why t n g = stops-by why t n (g .fuel) (g .enough) (g .inside) (g .rest)
+
+    goes-by : (a : Answer) (t : State) (n : Mem) (fuel : ℕ) → length trace < fuel + at → Going trace all m₀ log₀ at count s m log → playedFrom fuel trace at count s m log ≡ all
+        → called call s m ≡ afterOf (outcome a t) n → Given a → Going trace all m₀ log₀ next (count + 1) t n (logged log count a (interruptUp (t .irq)))
+    unfolding playedFrom
+    goes-by a t n zero e g r p y = absurd (omega (arith, e, g .inside))
+    goes-by a t n (suc k) e g r p y =
+        let sound = record-sound trace at call next found in
+        record {
+          fuel = k;
+          enough = omega (arith, e, sound .onward);
+          inside = sound .inside;
+          counted = omega (arith, g .counted, sound .onward);
+          short = g .short;
+          gate = rw p at (call-open call s m (g .gate));
+          sizes = same-on (g .sizes) (rw p at (call-sizes call s m (g .gate)));
+          log-size = logged-length log count a (interruptUp (t .irq)) ∙ g .log-size;
+          rest = sym (answered-given a _ _ y) ∙ (rw (found, p) at r);
+        }
+
+    -- An accepted call goes on from what it leaves.
+    pub goes : (a : Answer) (t : State) (n : Mem) → Going trace all m₀ log₀ at count s m log → called call s m ≡ afterOf (outcome a t) n → Given a
+        → Going trace all m₀ log₀ next (count + 1) t n (logged log count a (interruptUp (t .irq)))
+    goes a t n g = goes-by a t n (g .fuel) (g .enough) g (g .rest)

@@ -1,0 +1,26 @@
+-- A register, or outside their addresses the page (`read-idle`).
+use Rattle.player.proofs.Idle.{read-idle}
+use mathlib.Core.Path.{sym, _∙_}
+use borrow.Author.Needs.{needs}
+use Rattle.player.proofs.cpu_side.read.Statement.{statement}
+use Rattle.player.proofs.cpu_side.read.Tie as tie
+
+page-answer-requires : tie.Need-page-answer-requires
+page-answer-requires c κs = search needs
+
+is-within-requires : tie.Need-is-within-requires
+is-within-requires c κs = search needs
+
+register-or-requires : tie.Need-register-or-requires
+register-or-requires c κs = search needs
+
+returns : tie.Need-returns
+returns c = rw (← c .before .before .before .page-answer .ensures) (c .register-or .ensures)
+
+returns-2 : tie.Need-returns-2
+returns-2 c = rw (read-idle _ (sym (c .before .is-within .ensures) ∙ c .if1 .left)) (c .before .before .page-answer .ensures)
+
+pub read-spec : {M : Type 1} → statement M
+read-spec =
+    tie.close
+    (tie.spec page-answer-requires is-within-requires register-or-requires returns returns-2)

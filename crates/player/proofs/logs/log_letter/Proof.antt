@@ -1,0 +1,21 @@
+-- A letter is below 128.
+use Rattle.player.proofs.Letters.{letter-small}
+use native.Mathlib.Omega.{arith}
+use borrow.Author.Needs.{needs}
+use Rattle.player.proofs.logs.log_letter.Statement.{statement}
+use Rattle.player.proofs.logs.log_letter.Tie as tie
+
+letter-of-requires : tie.Need-letter-of-requires
+letter-of-requires c κs = search needs
+
+add-result : tie.Need-add-result
+add-result c = rw (c .before .letter-of .ensures) (omega (arith, letter-small (c .before .before .args .answer)))
+
+returns : tie.Need-returns
+returns c = rw (c .if1 .taken, c .before .letter-of .ensures)
+
+returns-2 : tie.Need-returns-2
+returns-2 c = rw (c .if1 .left, c .before .letter-of .ensures)
+
+pub log-letter-spec : {M : Type 1} → statement M
+log-letter-spec = tie.close (tie.spec letter-of-requires add-result returns returns-2)

@@ -1,0 +1,21 @@
+-- By the address.
+use borrow.Author.Tests.{lt-ltb, le-ltb}
+use borrow.Author.Needs.{needs}
+use Rattle.player.proofs.ppu_side.other_answer.Statement.{statement}
+use Rattle.player.proofs.ppu_side.other_answer.Tie as tie
+
+page-answer-requires : tie.Need-page-answer-requires
+page-answer-requires c κs = search needs
+
+pattern-served-requires : tie.Need-pattern-served-requires
+pattern-served-requires c κs = search needs
+
+returns : tie.Need-returns
+returns c = rw (lt-ltb _ _ (c .before .if1 .taken), ← c .before .before .page-answer .ensures) (c .pattern-served .ensures)
+
+returns-2 : tie.Need-returns-2
+returns-2 c = rw (le-ltb _ _ (c .if1 .left)) (c .before .page-answer .ensures)
+
+pub other-answer-spec : {M : Type 1} → statement M
+other-answer-spec =
+    tie.close (tie.spec page-answer-requires pattern-served-requires returns returns-2)

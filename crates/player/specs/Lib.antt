@@ -1,0 +1,4 @@
+pub mod Logs
+pub mod Sides
+pub mod Replay
+pub mod Promise

@@ -1,0 +1,257 @@
+// The records of a trace, played over a state in range and buffers of its lengths. The loop holds the state; each arm works on the groups that
+// its call touches, puts them back and goes on: no call is handed the whole state.
+ghost use mathlib.Core.Path.{_≡_};
+ghost use Prim.Native.Nat.{_≤_};
+ghost use lib.ListN.{length};
+ghost use Rattle.memory.specs.Bytes.{memOf};
+ghost use Rattle.state.specs.declared.gate.Gate.the-variants.{Open};
+ghost use Rattle.state.specs.Gate.{gateMem};
+ghost use Rattle.player.specs.Replay.{leftOf, played};
+use crate::Ending;
+use crate::Replayed;
+use crate::cpu_side;
+use crate::logs;
+use crate::ppu_side;
+use answers::Answer;
+use answers::Refusal;
+use state::Screen;
+use state::State;
+use trace::Call;
+use trace::Found;
+
+pub fn play(
+    s: State,
+    trace: &[u8],
+    prg: &[u8],
+    chr: &mut [u8],
+    ram: &mut [u8],
+    ciram: &mut [u8],
+    exram: &mut [u8],
+    log: &mut [u8],
+) -> Replayed
+    requires { ⌜ (length (now trace) ≤ 8192) × (gateMem s (memOf (now prg) (now chr) (now ram) (now ciram) (now exram)) ≡ Open) ⌝ }
+    ensures { λ r. ⌜ leftOf r (memOf (now (prg .entry)) (now (chr .exit)) (now (ram .exit)) (now (ciram .exit)) (now (exram .exit))) (now (log .exit))
+        ≡ played s (now (trace .entry)) (memOf (now (prg .entry)) (now (chr .entry)) (now (ram .entry)) (now (ciram .entry)) (now (exram .entry))) (now (log .entry)) ⌝ }
+{
+    let mut t = s;
+    let mut at: usize = 0;
+    let mut count: usize = 0;
+    let ending = loop {
+        let found = trace::records::record_at(trace, at);
+        match found {
+            Found::End => {
+                break Ending::Done(count);
+            }
+            Found::Refused(why) => {
+                break Ending::Stopped(at, why);
+            }
+            Found::Record(call, next) => match call {
+                Call::Clock => {
+                    let irq = scanline::clock(t.irq);
+                    t.irq = irq;
+                    logs::log_record(log, count, Answer::Nothing, irq);
+                    count += 1;
+                    at = next;
+                    continue;
+                }
+                Call::CpuRead(addr) => {
+                    let a = addr.0;
+                    if cpu::reads::audio_read(a) {
+                        break Ending::Stopped(at, Refusal::Audio);
+                    }
+                    let k = (a / 1024) as usize;
+                    let word = t.prg_pages[k];
+                    let prg_banks = t.prg_banks;
+                    let chr_banks = t.chr_banks;
+                    let answer = cpu_side::read(
+                        t.regs,
+                        t.vsplit,
+                        t.irq,
+                        prg_banks,
+                        chr_banks,
+                        word,
+                        prg,
+                        chr,
+                        ram,
+                        ciram,
+                        exram,
+                        a,
+                    );
+                    let irq = cpu::reads::irq_read(t.irq, a);
+                    t.irq = irq;
+                    logs::log_record(log, count, answer, irq);
+                    count += 1;
+                    at = next;
+                    continue;
+                }
+                Call::CpuWrite(addr, val) => {
+                    let a = addr.0;
+                    if cpu::writes::audio_write(a) {
+                        break Ending::Stopped(at, Refusal::Audio);
+                    }
+                    let k = (a / 1024) as usize;
+                    let word = t.prg_pages[k];
+                    let mode = t.regs.exram_mode;
+                    let rendering = t.ppu.rendering;
+                    // First the bytes: no register maps the page that registers are written at.
+                    cpu_side::store(chr, ram, ciram, exram, mode, rendering, word, a, val);
+                    if !cpu::groups::is_within(0x5100, 0x5206, a) {
+                        logs::log_record(log, count, Answer::Nothing, t.irq);
+                        count += 1;
+                        at = next;
+                        continue;
+                    }
+                    let lengths = t.lengths;
+                    let regs = registers::write(t.regs, a, val);
+                    t.regs = regs;
+                    if cpu::writes::maps_prg(a) {
+                        let old_banks = t.prg_banks;
+                        let banks = cpu::groups::prg_banks_after(old_banks, a, val);
+                        let old_pages = t.prg_pages;
+                        let pages = banks::prg::map_prg(
+                            lengths.prg,
+                            lengths.ram,
+                            regs,
+                            banks,
+                            old_pages,
+                        );
+                        t.prg_banks = banks;
+                        t.prg_pages = pages;
+                        logs::log_record(log, count, Answer::Nothing, t.irq);
+                        count += 1;
+                        at = next;
+                        continue;
+                    }
+                    let ppu = cpu::chosen::ppu_after(t.ppu, t.irq.in_frame, a);
+                    let vsplit = cpu::groups::split_after(t.vsplit, a, val);
+                    let irq = cpu::groups::irq_after(t.irq, a, val);
+                    let old_screen = t.screen;
+                    let old_mirroring = old_screen.mirroring;
+                    let mirroring = registers::mirroring_after(old_mirroring, a, val);
+                    let screen = Screen { mirroring };
+                    let old_banks = t.chr_banks;
+                    let banks = cpu::groups::chr_banks_after(old_banks, a, val);
+                    let old_pages = t.chr_pages;
+                    let pages = cpu::writes::chr_pages_after(
+                        lengths,
+                        regs,
+                        banks,
+                        ppu.bg_set,
+                        old_pages,
+                        a,
+                    );
+                    let at_5c00 = cpu_side::exram_word(t.prg_pages[23], regs.exram_mode, a);
+                    t.vsplit = vsplit;
+                    t.irq = irq;
+                    t.ppu = ppu;
+                    t.screen = screen;
+                    t.chr_banks = banks;
+                    t.chr_pages = pages;
+                    t.prg_pages[23] = at_5c00;
+                    logs::log_record(log, count, Answer::Nothing, irq);
+                    count += 1;
+                    at = next;
+                    continue;
+                }
+                Call::PpuRegister(addr, val) => {
+                    let a = addr.0;
+                    let ppu = board::ppu_registers::status_told(t.ppu, a, val);
+                    let irq = board::ppu_registers::detector_told(t.irq, a, val);
+                    t.ppu = ppu;
+                    t.irq = irq;
+                    logs::log_record(log, count, Answer::Nothing, irq);
+                    count += 1;
+                    at = next;
+                    continue;
+                }
+                Call::PpuFetch(addr) => {
+                    let a = addr.0;
+                    if scanline::counter_refused(t.irq, t.ppu.tile_number, a) {
+                        break Ending::Stopped(at, Refusal::Counter);
+                    }
+                    let k = (a / 1024 % 16) as usize;
+                    if scanline::tiles::counted(a) {
+                        let groups = ppu_side::count_fetch(t.regs, t.irq, t.ppu, t.vsplit, a);
+                        let irq = groups.irq;
+                        let ppu = groups.ppu;
+                        let vsplit = groups.vsplit;
+                        t.irq = irq;
+                        t.ppu = ppu;
+                        t.vsplit = vsplit;
+                        let word = t.chr_pages[k];
+                        let answer = ppu_side::counted_answer(
+                            t.regs,
+                            vsplit,
+                            irq.in_frame,
+                            ppu,
+                            word,
+                            prg,
+                            chr,
+                            ram,
+                            ciram,
+                            exram,
+                            a,
+                        );
+                        logs::log_record(log, count, answer, irq);
+                        count += 1;
+                        at = next;
+                        continue;
+                    }
+                    let ppu = ppu_side::chosen_at(t.ppu, t.irq.in_frame, a);
+                    if board_ppu::calls::set_changed(t.ppu.bg_set, ppu.bg_set) {
+                        let lengths = t.lengths;
+                        let banks = t.chr_banks;
+                        let old_pages = t.chr_pages;
+                        let pages = banks::chr::map_chr(
+                            lengths.chr,
+                            lengths.chr_writable,
+                            t.regs,
+                            banks,
+                            ppu.bg_set,
+                            old_pages,
+                        );
+                        t.chr_pages = pages;
+                    }
+                    t.ppu = ppu;
+                    let word = t.chr_pages[k];
+                    let answer = ppu_side::other_answer(
+                        t.regs,
+                        t.vsplit,
+                        t.irq,
+                        ppu,
+                        word,
+                        prg,
+                        chr,
+                        ram,
+                        ciram,
+                        exram,
+                        a,
+                    );
+                    logs::log_record(log, count, answer, t.irq);
+                    count += 1;
+                    at = next;
+                    continue;
+                }
+                Call::Reset => {
+                    t.regs.prg_mode = 3;
+                    t.regs.chr_mode = 3;
+                    logs::log_record(log, count, Answer::Nothing, t.irq);
+                    count += 1;
+                    at = next;
+                    continue;
+                }
+                Call::PpuWrite(addr, val) => {
+                    let a = addr.0;
+                    let k = (a / 1024 % 16) as usize;
+                    let word = t.chr_pages[k];
+                    memory::bytes::store(chr, ram, ciram, exram, word, a, val);
+                    logs::log_record(log, count, Answer::Nothing, t.irq);
+                    count += 1;
+                    at = next;
+                    continue;
+                }
+            },
+        }
+    };
+    Replayed { ending, state: t }
+}
