@@ -1,10 +1,14 @@
 -- Laws of decimals: the last digit taken off, and that the digits are the number's and no others.
-use Prim.Native.Nat.{ℕ, zero, suc, _+_, _-_, _*_, _/_, _%_, _<_, _≤_}
+use Prim.Native.Nat.{ℕ, zero, suc, _+_, _-_, _*_, _/_, _%_, _^_, _<_, _≤_}
 use mathlib.Core.List.{List, [], _∷_, _++_, append-nil}
 use mathlib.Core.Path.{_≡_, refl, sym, ap, ap₂, _∙_}
+use native.Mathlib.Nat.{pow-suc}
 use native.Mathlib.Omega.{arith}
-use lib.ListN.{getD}
+use borrow.Author.Tests.{ltb-true, ltb-false}
+use lib.Dec.{ltb}
+use lib.ListN.{length, length-append, getD}
 use lib.Seq.{append-snoc}
+use Rattle.memory.proofs.Tests.{split}
 use Rattle.text.specs.Sheet.{Sheet, placed, written}
 use Rattle.text.specs.Digits.{before, digits, readOn, decimalValue, AllDigits}
 use Rattle.text.proofs.SheetLaws.{one-byte, byte-after}
@@ -97,6 +101,17 @@ only-digits d ds h (low, high, rest) =
     let n : ℕ = 0 * 10 + (d - 48) in
     let last : 48 + n % 10 ≡ d = omega arith in
     digits-on n ds (omega arith) rest ∙ ap (λ (l : List ℕ). l ++ ds) (one-digit n (omega arith)) ∙ ap (λ (e : ℕ). e ∷ ds) last
+
+-- A number below a power of ten has no more digits than the power.
+pub few-digits : (k n : ℕ) → n < 10 ^ suc k → length (digits n) ≤ suc k
+few-digits zero n h = omega (arith, ap (λ (l : List ℕ). length l) (one-digit n (omega arith)))
+few-digits (suc k) n h =
+    split (ltb n 10)
+    (λ t. omega (arith, ap (λ (l : List ℕ). length l) (one-digit n (ltb-true n 10 t))))
+    (λ t.
+    let tens : length (digits (n / 10)) ≤ suc k = few-digits k (n / 10) (omega (arith, pow-suc 10 (suc k))) in
+    let e : length (digits n) ≡ length (digits (n / 10) ++ ((48 + n % 10) ∷ [])) = ap (λ (l : List ℕ). length l) (more-digits n (ltb-false n 10 t)) in
+    omega (arith, length-append (digits (n / 10)) ((48 + n % 10) ∷ [])))
 
 -- What one call of `decimal` writes: the only digit, or the last one after those of the tens.
 pub only-placed : (s u : Sheet) (n b : ℕ) → n < 10 → b ≡ 48 + n % 10 → u ≡ placed s b → u ≡ written s (digits n)

@@ -33,6 +33,14 @@ module _ (s t u : Sheet) where
   word-if true w last e f = word w [] last e f
   word-if false w last e f = f ∙ ap (λ (v : Sheet). written v (line [] last)) e
 
+-- A word and a space that are there, and that are not.
+pub with-value : (s t : Sheet) (has : Bool) (w : List ℕ) → has ≡ true → t ≡ written s w → t ≡ written s (pick has w [])
+with-value s t has w h e = e ∙ ap (λ (b : Bool). written s (pick b w [])) (sym h)
+
+pub no-value : (s : Sheet) (has : Bool) (w : List ℕ) → has ≡ false → s ≡ written s (pick has w [])
+unfolding written
+no-value s has w h = ap (λ (b : Bool). written s (pick b w [])) (sym h)
+
 -- The last word, a number.
 pub last-word : (s t : Sheet) (n m : ℕ) → n ≡ m → t ≡ written s (digits n ++ (10 ∷ [])) → t ≡ written s (line [] (digits m))
 unfolding line

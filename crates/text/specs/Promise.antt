@@ -1,5 +1,5 @@
 -- What is promised of writing beyond the definitions, as one statement, which the contract of `promises` holds.
-use Prim.Native.Nat.{ℕ, _+_, _*_, _≤_}
+use Prim.Native.Nat.{ℕ, suc, _+_, _*_, _^_, _<_, _≤_}
 use mathlib.Core.Bool.{Bool}
 use mathlib.Core.List.{List, [], _∷_, _++_}
 use mathlib.Core.Path.{_≡_}
@@ -27,6 +27,8 @@ pub record Writing : Type 0 where
   pub no-zero : (n : ℕ) → 1 ≤ n → 49 ≤ getD (digits n) 0 0
   -- There are no others: digits that do not begin with 0 are those of their value.
   pub only : (d : ℕ) (ds : List ℕ) → 49 ≤ d → AllDigits (d ∷ ds) → digits (decimalValue (d ∷ ds)) ≡ d ∷ ds
+  -- There are few: up to `k + 1` below that power of ten.
+  pub few : (k n : ℕ) → n < 10 ^ suc k → length (digits n) ≤ suc k
   -- The two bytes of an answer that is no refusal print as the answer does.
   pub logged : (number kind : ℕ) (a : Answer) (up : Bool) → ((why : Refusal) → a ≡ Refused why → ⊥)
       → loggedLine number kind (letterOf a + 128 * flag up) (valueOf a) ≡ acceptedLine number kind a up

@@ -9,18 +9,11 @@ ghost use Rattle.text.specs.Lines.{valued, loggedLine, refusedLine, unre
 use crate::words;
 use answers::Refusal;
 
-// Whether a value follows an answer's letter.
-fn has_value(letter: u8) -> bool
-    ensures { λ r. ⌜ r ≡ valued letter ⌝ }
-{
-    (letter == b'R') | ((letter == b'S') | (letter == b'M'))
-}
-
-// The value and a space, where there is one.
+// The value of an answer and a space, where the answer's letter has one: `R`, `S` and `M`.
 fn value_for(out: &mut [u8], at: usize, letter: u8, value: u8) -> usize
     ensures { λ r. ⌜ sheet (now (out .exit)) r ≡ written (sheet (now (out .entry)) at) (pick (valued letter) (digits value ++ (32 ∷ [])) []) ⌝ }
 {
-    if has_value(letter) {
+    if (letter == b'R') | ((letter == b'S') | (letter == b'M')) {
         return words::number(out, at, value as u32, b' ');
     }
     at

@@ -22,7 +22,9 @@ same-length c = search needs
 
 returns : tie.Need-returns
 returns c =
-    word _ _ _ _ _ _ (byte-first _ _ _ _ _ (c .before .before .before .before .before .before .before .before .before .before .before .before .before .before .put .ensures) (byte-first _ _ _ _ _ (c .before .before .before .before .before .before .before .before .before .before .put2 .ensures) (c .before .before .before .before .before .before .letter .ensures)))
+    word _ _ _ _ _ _
+    (byte-first _ _ _ _ _ (c .before .before .before .before .before .before .before .before .before .before .before .before .before .before .put .ensures)
+    (byte-first _ _ _ _ _ (c .before .before .before .before .before .before .before .before .before .before .put2 .ensures) (c .before .before .before .before .before .before .letter .ensures)))
     (last-word _ _ _ _ refl (c .before .before .number .ensures))
 
 pub end-line-spec : {M : Type 1} → statement M
