@@ -27,7 +27,7 @@ pub record Writing : Type 0 where
   pub no-zero : (n : ℕ) → 1 ≤ n → 49 ≤ getD (digits n) 0 0
   -- There are no others: digits that do not begin with 0 are those of their value.
   pub only : (d : ℕ) (ds : List ℕ) → 49 ≤ d → AllDigits (d ∷ ds) → digits (decimalValue (d ∷ ds)) ≡ d ∷ ds
-  -- There are few: up to `k + 1` below that power of ten.
+  -- A number below the `k + 1`st power of ten has at most `k + 1` digits.
   pub few : (k n : ℕ) → n < 10 ^ suc k → length (digits n) ≤ suc k
   -- The two bytes of an answer that is no refusal print as the answer does.
   pub logged : (number kind : ℕ) (a : Answer) (up : Bool) → ((why : Refusal) → a ≡ Refused why → ⊥)
