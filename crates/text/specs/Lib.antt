@@ -1,0 +1,5 @@
+pub mod Sheet
+pub mod Digits
+pub mod Lines
+pub mod Promise
+pub mod Examples
