@@ -1,0 +1,5 @@
+pub mod Behind
+pub mod Following
+pub mod Along
+pub mod Demands
+pub mod Waited

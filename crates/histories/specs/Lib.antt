@@ -1,0 +1,5 @@
+pub mod Boards
+pub mod Histories
+pub mod Interrupts
+pub mod Accepted
+pub mod Waits

@@ -1,0 +1,16 @@
+// The promises as theorems over histories: accepted calls one after the other from an accepted load, each over the state and the buffers as the
+// call before it left them. No code runs from here: each function's contract holds what is promised, so that a proof that goes missing fails
+// the check. specs/Boards.antt and specs/Histories.antt say what a call and a history are.
+ghost use Rattle.histories.specs.Accepted.{Along};
+ghost use Rattle.histories.specs.Interrupts.{BoardDemand3, Asked};
+ghost use Rattle.histories.specs.Waits.{Waits};
+
+// The history alone tells the scanline interrupt.
+pub fn demand_3()
+    ensures { λ _. ⌜ BoardDemand3 × Asked × Waits ⌝ }
+{}
+
+// Which calls are refused along a history, and with which number.
+pub fn who_is_accepted()
+    ensures { λ _. ⌜ Along ⌝ }
+{}
