@@ -3,3 +3,4 @@ pub mod Following
 pub mod Along
 pub mod Demands
 pub mod Waited
+pub mod OneOnly

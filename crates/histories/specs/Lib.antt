@@ -3,3 +3,4 @@ pub mod Histories
 pub mod Interrupts
 pub mod Accepted
 pub mod Waits
+pub mod Results

@@ -3,7 +3,13 @@
 // the check. specs/Boards.antt and specs/Histories.antt say what a call and a history are.
 ghost use Rattle.histories.specs.Accepted.{Along};
 ghost use Rattle.histories.specs.Interrupts.{BoardDemand3, Asked};
+ghost use Rattle.histories.specs.Results.{OneResult};
 ghost use Rattle.histories.specs.Waits.{Waits};
+
+// A history has one result: every answer, the page tables and the memory are the definitions'.
+pub fn demand_2()
+    ensures { λ _. ⌜ OneResult ⌝ }
+{}
 
 // The history alone tells the scanline interrupt.
 pub fn demand_3()
