@@ -4,3 +4,4 @@ pub mod Along
 pub mod Demands
 pub mod Waited
 pub mod OneOnly
+pub mod Computed

@@ -9,6 +9,7 @@ use Rattle.memory.specs.Bytes.{Mem}
 use Rattle.answers.specs.declared.Answer.{Answer}
 use Rattle.answers.specs.declared.Answer.the-variants as answer
 use Rattle.answers.specs.Numbers.{numberOf}
+use Rattle.state.specs.declared.State.{State}
 use Rattle.board.specs.declared.Interrupt.{Interrupt}
 use Rattle.board.specs.declared.Interrupt.the-variants as interrupt
 use Rattle.board.specs.declared.Told.{Told}
@@ -17,7 +18,6 @@ use Rattle.board.specs.CpuSide.{cpuPeek}
 use Rattle.board.specs.Whole.{mirroringCall, interruptCall}
 use Rattle.board_ppu.specs.Peeks.{ppuPeek, spritePeek}
 use Rattle.views.specs.Views.{cpuView, ppuView}
-use Rattle.state.specs.declared.State.{State}
 use Rattle.trace.specs.declared.Call.{Call}
 use Rattle.calls.specs.Called.{called}
 

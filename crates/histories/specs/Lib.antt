@@ -4,3 +4,4 @@ pub mod Interrupts
 pub mod Accepted
 pub mod Waits
 pub mod Results
+pub mod Edges

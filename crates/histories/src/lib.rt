@@ -2,6 +2,7 @@
 // call before it left them. No code runs from here: each function's contract holds what is promised, so that a proof that goes missing fails
 // the check. specs/Boards.antt and specs/Histories.antt say what a call and a history are.
 ghost use Rattle.histories.specs.Accepted.{Along};
+ghost use Rattle.histories.specs.Edges.{Edges, ShutOut, CasesAreHistories};
 ghost use Rattle.histories.specs.Interrupts.{BoardDemand3, Asked};
 ghost use Rattle.histories.specs.Results.{OneResult};
 ghost use Rattle.histories.specs.Waits.{Waits};
@@ -19,4 +20,14 @@ pub fn demand_3()
 // Which calls are refused along a history, and with which number.
 pub fn who_is_accepted()
     ensures { λ _. ⌜ Along ⌝ }
+{}
+
+// Document 01's cases marked P, one list; each is a history.
+pub fn cases_marked_p()
+    ensures { λ _. ⌜ Edges × CasesAreHistories ⌝ }
+{}
+
+// Boards that document 01 shuts out by name: cases with another outcome under each.
+pub fn shut_out()
+    ensures { λ _. ⌜ ShutOut ⌝ }
 {}

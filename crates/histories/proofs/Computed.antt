@@ -1,0 +1,82 @@
+-- The cases hold, by computation, and each is a history.
+use mathlib.Core.List.{List, [], _∷_}
+use mathlib.Core.Bool.{Bool, true, false}
+use mathlib.Core.Path.{_≡_, refl}
+use borrow.Author.Tests.{eqb-true}
+use lib.Dec.{eqb}
+use Rattle.memory.specs.Bytes.{Mem, offsetOf, byteAt, storedAt, pageStored}
+use Rattle.memory.specs.Tables.{all, prgShowsAs, chrShowsAs}
+use Rattle.memory.specs.Words.{numberOf, pageOf}
+use Rattle.memory.specs.Windows.{pageStart, windowPage}
+use Rattle.memory.proofs.Tests.{split, and-left, and-right}
+use Rattle.answers.specs.declared.Answer.the-variants.{Nothing}
+use Rattle.answers.specs.declared.Refusal.the-variants.{Prg, Chr, Ram}
+use Rattle.registers.specs.declared.Mirroring.{Mirroring}
+use Rattle.registers.specs.declared.Mirroring.the-variants.{Horizontal}
+use Rattle.registers.specs.Registers.{written, rangesOk as regsOk}
+use Rattle.banks.specs.Placed.{placed}
+use Rattle.banks.specs.Prg.{prgValues, prgShown, windowsMapped, exramPage}
+use Rattle.banks.specs.Chr.{windowPages, chrNumber, chrMapped}
+use Rattle.banks.specs.Names.{selector, namePage, namesMapped}
+use Rattle.scanline.specs.Tiles.{nextTile, tileRefused, tilesOk, spriteFetch, isFirst, isPrefetched, columnOf}
+use Rattle.scanline.specs.Ranges.{lineRefused, counterRefused, rangesOk}
+use Rattle.scanline.specs.Clock.{tick}
+use Rattle.scanline.specs.Steps.{again, matchesAfter, isLine, meets, seenAt}
+use Rattle.split.specs.Region.{splitAddress}
+use Rattle.state.specs.Gate.{sameLengths, gateOf}
+use Rattle.state.specs.Lengths.{lengthsOk}
+use Rattle.state.specs.Ranges.{inRange}
+use Rattle.cpu.specs.Chosen.{chosen, ppuAfter}
+use Rattle.cpu.specs.Groups.{splitAfter, irqAfter, prgBanksAfter, chrBanksAfter}
+use Rattle.cpu.specs.Reads.{pageAnswer, registerRead, irqRead, cpuAnswer}
+use Rattle.cpu.specs.Writes.{prgPagesAfter, chrPagesAfter, registerWritten, latched, cpuStored}
+use Rattle.ppu.specs.Fetches.{cacheAfter, ppuSeen, splitSeen}
+use Rattle.ppu.specs.Served.{countedServed}
+use Rattle.board.specs.Loads.{loadedState, loadCall}
+use Rattle.board.specs.CpuSide.{cpuRead, cpuWrite}
+use Rattle.board.specs.Whole.{clockCall, toldPpu, ppuRegisterCall}
+use Rattle.board_ppu.specs.Fetch.{countedCall, ppuFetch}
+use Rattle.board_ppu.specs.Peeks.{chrAnswer}
+use Rattle.lines.specs.Promise.Played.{at-load, taken}
+use Rattle.promises.specs.Loading.{goodPrg, goodChr, goodRam}
+use Rattle.promises.proofs.Loadings.{load-refusals}
+use Rattle.histories.specs.Boards.{Board, Made, says, leaves, number, numberIn}
+use Rattle.histories.specs.Histories.{Load, Reached}
+use Rattle.histories.specs.Edges.{lent, start, loads, accepted, after, sees, right, hold, Edges, ShutOut, onto, CasesAreHistories}
+use Rattle.histories.proofs.Behind.{numbered}
+
+computed : Edges × ShutOut
+unfolding nextTile tileRefused tilesOk spriteFetch isFirst isPrefetched columnOf lineRefused counterRefused rangesOk tick again matchesAfter isLine meets seenAt offsetOf byteAt storedAt pageStored all prgShowsAs chrShowsAs numberOf pageOf pageStart windowPage written regsOk placed prgValues prgShown windowsMapped exramPage windowPages chrNumber chrMapped selector namePage namesMapped sameLengths gateOf lengthsOk inRange splitAddress chosen ppuAfter splitAfter irqAfter prgBanksAfter chrBanksAfter pageAnswer registerRead irqRead cpuAnswer prgPagesAfter chrPagesAfter registerWritten latched cpuStored cacheAfter ppuSeen splitSeen countedServed loadedState loadCall cpuRead cpuWrite clockCall toldPpu ppuRegisterCall countedCall ppuFetch chrAnswer says leaves number hold right loads accepted after sees
+computed = (tt, tt)
+
+pub edges-hold : Edges
+edges-hold = computed .0
+
+pub shut-out : ShutOut
+shut-out = computed .1
+
+-- A load with no refusal is accepted.
+load-accepted : (m : Mem) (asRam : Bool) (mirroring : Mirroring) → numberIn (loadCall m asRam mirroring .answer) ≡ 0 → loadCall m asRam mirroring .answer ≡ Nothing
+unfolding loadCall
+load-accepted m asRam mirroring n =
+    split (goodPrg m)
+    (λ p. split (goodChr m)
+    (λ c. split (goodRam m) (λ r. load-refusals .accepted m asRam mirroring p c r) (λ r. numbered Ram (rw (p, c, r) at n)))
+    (λ c. numbered Chr (rw (p, c) at n)))
+    (λ p. numbered Prg (rw p at n))
+
+-- Calls on top of a history, each accepted.
+goes-on : (l : Load) (hs : List Made) (b : Board) (cs : List Made) → Reached l hs b → accepted b cs ≡ true → Reached l (onto cs hs) (after b cs)
+unfolding accepted after onto
+goes-on l hs b [] r e = r
+goes-on l hs b (c ∷ cs) r e =
+    goes-on l (c ∷ hs) (leaves b c) cs
+    (taken c r (record { accepted = eqb-true _ 0 (and-left _ (accepted (leaves b c) cs) e); left = refl }))
+    (and-right (eqb (number (says b c)) 0) (accepted (leaves b c) cs) e)
+
+pub cases-are-histories : CasesAreHistories
+unfolding right loads
+cases-are-histories c e =
+    let runs = and-right (loads c) _ e in
+    let l : Load = record { mem = lent c; as-ram = false; mirroring = Horizontal; accepted = load-accepted (lent c) false Horizontal (eqb-true _ 0 (and-left (loads c) _ e)) } in
+    record { load = l; lends = refl; calls = goes-on l [] (start c) (c .calls) at-load (and-left (accepted (start c) (c .calls)) _ runs) }
