@@ -1,7 +1,10 @@
 -- The cases hold, by computation, and each is a history.
-use mathlib.Core.List.{List, [], _∷_}
-use mathlib.Core.Bool.{Bool, true, false}
-use mathlib.Core.Path.{_≡_, refl}
+use Prim.Native.Nat.{ℕ}
+use mathlib.Core.List.{List, [], _∷_, map}
+use mathlib.Core.Option.{Option, none, some}
+use mathlib.Core.Bool.{Bool, true, false, _&&_}
+use mathlib.Core.Path.{_≡_, refl, _∙_}
+use native.Mathlib.Omega.{arith}
 use borrow.Author.Tests.{eqb-true}
 use lib.Dec.{eqb}
 use Rattle.memory.specs.Bytes.{Mem, offsetOf, byteAt, storedAt, pageStored}
@@ -42,18 +45,23 @@ use Rattle.promises.specs.Loading.{goodPrg, goodChr, goodRam}
 use Rattle.promises.proofs.Loadings.{load-refusals}
 use Rattle.histories.specs.Boards.{Board, Made, says, leaves, number, numberIn}
 use Rattle.histories.specs.Histories.{Load, Reached}
-use Rattle.histories.specs.Edges.{lent, start, loads, accepted, after, sees, right, hold, Edges, ShutOut, onto, CasesAreHistories}
+use Rattle.histories.specs.Edges.{lent, start, loads, accepted, after, seen, comes, edges, shutOut, Edges, ShutOut, onto, CasesAreHistories}
 use Rattle.histories.proofs.Behind.{numbered}
 
-computed : Edges × ShutOut
-unfolding nextTile tileRefused tilesOk spriteFetch isFirst isPrefetched columnOf lineRefused counterRefused rangesOk tick again matchesAfter isLine meets seenAt offsetOf byteAt storedAt pageStored all prgShowsAs chrShowsAs numberOf pageOf pageStart windowPage written regsOk placed prgValues prgShown windowsMapped exramPage windowPages chrNumber chrMapped selector namePage namesMapped sameLengths gateOf lengthsOk inRange splitAddress chosen ppuAfter splitAfter irqAfter prgBanksAfter chrBanksAfter pageAnswer registerRead irqRead cpuAnswer prgPagesAfter chrPagesAfter registerWritten latched cpuStored cacheAfter ppuSeen splitSeen countedServed loadedState loadCall cpuRead cpuWrite clockCall toldPpu ppuRegisterCall countedCall ppuFetch chrAnswer says leaves number hold right loads accepted after sees
-computed = (tt, tt)
+-- What the cases come to.
+abbrev all-some : List ℕ → List (Option ℕ)
+all-some l = map some l
 
+come : (map comes edges ≡ all-some (159 ∷ 1 ∷ 254 ∷ 1 ∷ 64 ∷ 64 ∷ 64 ∷ 192 ∷ 64 ∷ 64 ∷ 0 ∷ 0 ∷ 9 ∷ 6 ∷ 6 ∷ 959 ∷ 928 ∷ [])) × (map comes shutOut ≡ all-some (1 ∷ 254 ∷ 7 ∷ 7 ∷ 63 ∷ 5 ∷ 192 ∷ 64 ∷ 192 ∷ []))
+unfolding nextTile tileRefused tilesOk spriteFetch isFirst isPrefetched columnOf lineRefused counterRefused rangesOk tick again matchesAfter isLine meets seenAt offsetOf byteAt storedAt pageStored all prgShowsAs chrShowsAs numberOf pageOf pageStart windowPage written regsOk placed prgValues prgShown windowsMapped exramPage windowPages chrNumber chrMapped selector namePage namesMapped sameLengths gateOf lengthsOk inRange splitAddress chosen ppuAfter splitAfter irqAfter prgBanksAfter chrBanksAfter pageAnswer registerRead irqRead cpuAnswer prgPagesAfter chrPagesAfter registerWritten latched cpuStored cacheAfter ppuSeen splitSeen countedServed loadedState loadCall cpuRead cpuWrite clockCall toldPpu ppuRegisterCall countedCall ppuFetch chrAnswer says leaves number comes loads accepted after seen
+come = (refl, refl)
+
+-- These are the values that are asked for.
 pub edges-hold : Edges
-edges-hold = computed .0
+edges-hold = come .0 ∙ refl
 
 pub shut-out : ShutOut
-shut-out = computed .1
+shut-out = come .1 ∙ refl
 
 -- A load with no refusal is accepted.
 load-accepted : (m : Mem) (asRam : Bool) (mirroring : Mirroring) → numberIn (loadCall m asRam mirroring .answer) ≡ 0 → loadCall m asRam mirroring .answer ≡ Nothing
@@ -74,9 +82,14 @@ goes-on l hs b (c ∷ cs) r e =
     (taken c r (record { accepted = eqb-true _ 0 (and-left _ (accepted (leaves b c) cs) e); left = refl }))
     (and-right (eqb (number (says b c)) 0) (accepted (leaves b c) cs) e)
 
+none-is-not : {v : ℕ} {A : Type 0} → _≡_ {A = Option ℕ} none (some v) → A
+none-is-not e = let z : _≡_ {A = ℕ} 0 1 = cc in absurd (omega arith)
+
 pub cases-are-histories : CasesAreHistories
-unfolding right loads
-cases-are-histories c e =
-    let runs = and-right (loads c) _ e in
-    let l : Load = record { mem = lent c; as-ram = false; mirroring = Horizontal; accepted = load-accepted (lent c) false Horizontal (eqb-true _ 0 (and-left (loads c) _ e)) } in
-    record { load = l; lends = refl; calls = goes-on l [] (start c) (c .calls) at-load (and-left (accepted (start c) (c .calls)) _ runs) }
+unfolding comes loads
+cases-are-histories c v e =
+    split (loads c && accepted (start c) (c .calls))
+    (λ t.
+    let l : Load = record { mem = lent c; as-ram = false; mirroring = Horizontal; accepted = load-accepted (lent c) false Horizontal (eqb-true _ 0 (and-left (loads c) _ t)) } in
+    record { load = l; lends = refl; calls = goes-on l [] (start c) (c .calls) at-load (and-right (loads c) (accepted (start c) (c .calls)) t) })
+    (λ t. none-is-not (rw t at e))

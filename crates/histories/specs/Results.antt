@@ -2,7 +2,6 @@
 -- 01, "What each contract settles": "Any two results it allows are proved equal". Each entry point's contract is one equation with the
 -- definition that `says` and `leaves` name; here they are put together over a whole history.
 -- Assumes nothing.
-use Prim.Native.Nat.{ℕ}
 use mathlib.Core.Path.{_≡_}
 use mathlib.Core.Bool.{true}
 use mathlib.Core.List.{List, [], _∷_}
