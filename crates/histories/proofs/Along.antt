@@ -1,29 +1,21 @@
 -- Along a history: the gate is open, refusals are 6 and 7 as told, and which histories there are.
-use Prim.Native.Nat.{ℕ}
-use mathlib.Core.Bool.{Bool, true, false, not}
+use mathlib.Core.Bool.{true, not}
 use mathlib.Core.List.{List, [], _∷_}
 use mathlib.Core.Path.{_≡_, refl, sym, _∙_, ap}
 use borrow.Author.Tests.{eqb-true, eq-eqb}
 use lib.ListN.{length}
-use Rattle.memory.specs.Bytes.{Mem}
-use Rattle.memory.specs.Words.{pick}
 use Rattle.memory.proofs.Tests.{pick-keeps, and-left, and-right, and-both}
-use Rattle.scanline.specs.Ranges.{counterRefused}
 use Rattle.state.specs.declared.gate.Gate.the-variants.{Open}
-use Rattle.state.specs.declared.State.{State}
 use Rattle.state.specs.Gate.{gateMem}
 use Rattle.state.specs.Lengths.{prgTaken, chrTaken, ramTaken}
-use Rattle.cpu.specs.Reads.{audioRead}
-use Rattle.cpu.specs.Writes.{audioWrite}
 use Rattle.board.specs.declared.Outcome.{Outcome}
 use Rattle.board.specs.Loads.{loadCall, loadedState}
 use Rattle.trace.specs.declared.Call.the-variants.{Clock, CpuRead, CpuWrite, PpuRegister, PpuFetch, Reset, PpuWrite}
-use Rattle.calls.specs.Called.{called}
 use Rattle.lines.specs.Told.{History}
 use Rattle.lines.specs.Machine.{step, Watched, atLoad, tilesBy, watched}
 use Rattle.lines.specs.Promise.{historyOf, Reached as Seen}
 use Rattle.lines.specs.Promise.Played.{at-load, taken}
-use Rattle.promises.proofs.Promised.{gate-stays-open, who-is-refused}
+use Rattle.promises.proofs.Promised.{gate-stays-open}
 use Rattle.histories.specs.Boards.{Board, Made, says, leaves, number}
 use Rattle.histories.specs.Boards.Made.{call, peek, ppu-peek, sprite-peek, mirroring-asked, interrupt-asked, cpu-page, ppu-page}
 use Rattle.histories.specs.Histories.{Load, first, Reached, event}
@@ -98,40 +90,10 @@ are-reached l (c ∷ cs) e =
     let n : refusal (watched (historyOf event cs)) c ≡ 0 = eqb-true _ 0 (and-right (acceptable cs) _ e) in
     (leaves (p .0) c, taken c (p .1) (record { accepted = number-told l (p .1) c ∙ n; left = refl }))
 
--- A refused call changes nothing --------------------------------------------------------------------------------------------------------
-
-picked : (t : Bool) (n : ℕ) → (pick t n 0 ≡ 0 → ⊥) → t ≡ true
-picked true n h = refl
-picked false n h = absurd (h refl)
-
-gives-back : (b : Board) (c : Made) → Opened b → (refusal (watch b) c ≡ 0 → ⊥) → leaves b c ≡ b
-unfolding refusal leaves
-gives-back b (call Clock) h e = absurd (e refl)
-gives-back b (call (CpuRead a)) h e =
-    ap (λ (s : State). record { state = s; mem = b .mem }) (who-is-refused .read-audio (b .state) (b .mem) (a .0) h (picked (audioRead (a .0)) 6 e) .given-back)
-gives-back b (call (CpuWrite a v)) h e =
-    let t = picked (audioWrite (a .0)) 6 e in
-    ap (λ (s : State). record { state = s; mem = called (CpuWrite a v) (b .state) (b .mem) .mem }) (who-is-refused .write-audio (b .state) (b .mem) (a .0) v h t .given-back)
-    ∙ ap (λ (m : Mem). record { state = b .state; mem = m }) (who-is-refused .write-audio-bytes (b .state) (b .mem) (a .0) v h t)
-gives-back b (call (PpuRegister a v)) h e = absurd (e refl)
-gives-back b (call (PpuFetch a)) h e =
-    ap (λ (s : State). record { state = s; mem = b .mem })
-    (who-is-refused .fetch-counter (b .state) (b .mem) (a .0) h (picked (counterRefused (b .state .irq) (b .state .ppu .«tile_number») (a .0)) 7 e) .given-back)
-gives-back b (call Reset) h e = absurd (e refl)
-gives-back b (call (PpuWrite a v)) h e = absurd (e refl)
-gives-back b (peek a) h e = refl
-gives-back b (ppu-peek a) h e = refl
-gives-back b (sprite-peek a) h e = refl
-gives-back b mirroring-asked h e = refl
-gives-back b interrupt-asked h e = refl
-gives-back b (cpu-page a) h e = refl
-gives-back b (ppu-page a) h e = refl
-
 pub along : Along
 along = record {
   gate = λ l cs b r. open-along l r;
   refused = λ l cs b r c. exactly b c (open-along l r);
-  given-back = λ l cs b r c e. gives-back b c (open-along l r) e;
   told = λ l cs b r. told-along l r;
   all-of-them = λ l cs. (λ p. are-acceptable l (p .1), are-reached l cs);
 }

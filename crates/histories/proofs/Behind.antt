@@ -105,7 +105,7 @@ given (Page v) h = refl
 given Blank h = refl
 given (Refused r) h = absurd (false≢true (sym h))
 
-nothing : (a : Answer) → a ≡ Nothing → numberIn a ≡ 0
+pub nothing : (a : Answer) → a ≡ Nothing → numberIn a ≡ 0
 nothing a e = rw e
 
 numbers : (a : Answer) (n : ℕ) → letterOf a ≡ 0x21 → valueOf a ≡ n → numberIn a ≡ n
@@ -116,10 +116,10 @@ numbers (Page x) n l v = absurd (omega arith)
 numbers Blank n l v = absurd (omega arith)
 numbers (Refused r) n l v = v
 
-with-number : (n : ℕ) (s : State) (o : Outcome) → RefusedWith n s o → numberIn (o .answer) ≡ n
+pub with-number : (n : ℕ) (s : State) (o : Outcome) → RefusedWith n s o → numberIn (o .answer) ≡ n
 with-number n s o r = numbers (o .answer) n (r .letter) (r .number)
 
-told : (i : Interrupt) → isTold i ≡ true → number (interrupts i) ≡ 0
+pub told : (i : Interrupt) → isTold i ≡ true → number (interrupts i) ≡ 0
 unfolding number
 told Up e = refl
 told Down e = refl
@@ -156,7 +156,7 @@ exactly b (cpu-page a) h = refl
 exactly b (ppu-page a) h = refl
 
 -- A call that is accepted meets no refusal, and is done.
-gate-case : {A : Type 0} (g : Gate) → (g ≡ Open → A) → ((r : Refusal) → g ≡ Shut r → A) → A
+pub gate-case : {A : Type 0} (g : Gate) → (g ≡ Open → A) → ((r : Refusal) → g ≡ Shut r → A) → A
 gate-case Open f k = f refl
 gate-case (Shut r) f k = k r refl
 

@@ -1,6 +1,6 @@
 -- Demand 3 over the board, by crate `lines`' transfer, and what the interrupt call and $5204 then say.
 use mathlib.Core.Bool.{Bool, true, false, false≢true}
-use mathlib.Core.List.{List}
+use mathlib.Core.List.{List, _∷_, _++_}
 use mathlib.Core.Logic.{_↔_}
 use mathlib.Core.Path.{_≡_, refl, sym, _∙_, ap}
 use Rattle.memory.specs.Bytes.{Mem}
@@ -53,7 +53,7 @@ down-says : (u : Bool) → (pick u Up Down ≡ Down) ↔ (u ≡ true → ⊥)
 down-says true = (λ e. absurd (false≢true (sym (ap isUp e))), λ f. absurd (f refl))
 down-says false = (λ e t. false≢true t, λ f. refl)
 
-pub asks : (s : State) → inRange s ≡ true → interruptCall s ≡ pick (interruptUp (s .irq)) Up Down
+asks : (s : State) → inRange s ≡ true → interruptCall s ≡ pick (interruptUp (s .irq)) Up Down
 unfolding interruptCall
 asks s h = rw h
 
@@ -74,24 +74,27 @@ module _ (l : Load) (cs : List Made) (b : Board) (r : Reached l cs b) where
       ∙ ap (λ (d : Detector). Register (statusOf d)) (seen Board Made (first l) Takes view event (starts l) follows r)
       ∙ ap Register (status-told (historyOf event cs))
 
+  pub asked-at : interruptCall (b .state) ≡ pick (interruptUp (view b)) Up Down
+  asked-at = asks (b .state) (in-range-of (b .state) (b .mem) (open-along l r))
+
   told-up : (interruptCall (b .state) ≡ Up) ↔ ToldUp (historyOf event cs)
   told-up =
-      let a = asks (b .state) (in-range-of (b .state) (b .mem) (open-along l r)) in
       let u = up-says (interruptUp (view b)) in
       let i = board-demand-3 l .interrupt r in
-      (λ e. i .0 (u .0 (sym a ∙ e)), λ t. a ∙ u .1 (i .1 t))
+      (λ e. i .0 (u .0 (sym asked-at ∙ e)), λ t. asked-at ∙ u .1 (i .1 t))
 
   told-down : (interruptCall (b .state) ≡ Down) ↔ (ToldUp (historyOf event cs) → ⊥)
   told-down =
-      let a = asks (b .state) (in-range-of (b .state) (b .mem) (open-along l r)) in
       let u = down-says (interruptUp (view b)) in
       let i = board-demand-3 l .interrupt r in
-      (λ e t. u .0 (sym a ∙ e) (i .1 t), λ f. a ∙ u .1 (λ t. f (i .0 t)))
+      (λ e t. u .0 (sym asked-at ∙ e) (i .1 t), λ f. asked-at ∙ u .1 (λ t. f (i .0 t)))
 
 pub asked : Asked
 asked = record {
   up = told-up;
   down = told-down;
   status = told-status;
+  no-sooner = λ l hs gs s n w c k b r. asked-at l (gs ++ hs) b r ∙ rw (board-demand-3 l .no-sooner hs gs s n w c k r);
+  served = λ l hs gs s n e w c t k b r. asked-at l (e ∷ (gs ++ hs)) b r ∙ rw (board-demand-3 l .served hs gs s n e w c t k r);
   status-peek = λ l cs b r. who-is-refused .peek (b .state) (b .mem) 0x5204 ∙ told-status l cs b r;
 }

@@ -17,7 +17,7 @@ use Rattle.cpu.specs.Writes.{audioWrite}
 use Rattle.trace.specs.declared.Call.the-variants.{Clock, CpuRead, CpuWrite, PpuRegister, PpuFetch, Reset, PpuWrite}
 use Rattle.lines.specs.Machine.{Watched, watched}
 use Rattle.lines.specs.Promise.{historyOf}
-use Rattle.histories.specs.Boards.{Board, Made, says, leaves, number}
+use Rattle.histories.specs.Boards.{Board, Made, says, number}
 use Rattle.histories.specs.Boards.Made.{call, peek, ppu-peek, sprite-peek, mirroring-asked, interrupt-asked, cpu-page, ppu-page}
 use Rattle.histories.specs.Histories.{Load, Reached, event}
 
@@ -52,9 +52,8 @@ acceptable (c ∷ cs) = acceptable cs && eqb (refusal (watched (historyOf event 
 pub record Along : Type 0 where
   -- an accepted call leads to no refusal 4 or 5
   pub gate : (l : Load) (cs : List Made) (b : Board) → Reached l cs b → gateMem (b .state) (b .mem) ≡ Open
-  -- the next call is refused exactly when 01 says, with that number; then it changes nothing
+  -- the next call is refused exactly when 01 says, with that number (that it then changes nothing: `gives-back` of specs/Refusals.antt)
   pub refused : (l : Load) (cs : List Made) (b : Board) → Reached l cs b → (c : Made) → number (says b c) ≡ refusal (watch b) c
-  pub given-back : (l : Load) (cs : List Made) (b : Board) → Reached l cs b → (c : Made) → (refusal (watch b) c ≡ 0 → ⊥) → leaves b c ≡ b
   -- what refusal 7 looks at is told by the calls alone
   pub told : (l : Load) (cs : List Made) (b : Board) → Reached l cs b → watch b ≡ watched (historyOf event cs)
   -- and so are the histories: there is one of these calls from every load, if they meet no refusal, and else from none

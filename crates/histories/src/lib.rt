@@ -4,8 +4,14 @@
 ghost use Rattle.histories.specs.Accepted.{Along};
 ghost use Rattle.histories.specs.Edges.{Edges, ShutOut, CasesAreHistories};
 ghost use Rattle.histories.specs.Interrupts.{BoardDemand3, Asked};
+ghost use Rattle.histories.specs.Refusals.{Refusals};
 ghost use Rattle.histories.specs.Results.{OneResult};
 ghost use Rattle.histories.specs.Waits.{Waits};
+
+// Which calls are refused, on every board, and with which number; a refused call changes nothing.
+pub fn demand_1()
+    ensures { λ _. ⌜ Refusals ⌝ }
+{}
 
 // A history has one result: every answer, the page tables and the memory are the definitions'.
 pub fn demand_2()
@@ -17,7 +23,7 @@ pub fn demand_3()
     ensures { λ _. ⌜ BoardDemand3 × Asked × Waits ⌝ }
 {}
 
-// Which calls are refused along a history, and with which number.
+// Which calls are accepted along a history, and which histories there are.
 pub fn who_is_accepted()
     ensures { λ _. ⌜ Along ⌝ }
 {}
