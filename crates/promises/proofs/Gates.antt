@@ -121,7 +121,7 @@ module _ (s : State) (m : Mem) (h : gateMem s m ≡ Open) where
   register-open a v = let r = in-range-of s m h in rw r (stays s _ m m h (told-lengths s a v) (register-keeps-range s a v r) (same m))
 
 -- Load, accepted: none of the three refusals was given.
-refused-not-nothing : (r : Refusal) {A : Type 0} → Refused r ≡ Nothing → A
+pub refused-not-nothing : (r : Refusal) {A : Type 0} → Refused r ≡ Nothing → A
 refused-not-nothing r e = let z : _≡_ {A = ℕ} 0 1 = cc in absurd (omega arith)
 
 recorded-same : (m : Mem) (asRam : Bool) → sameLengths (recorded m asRam) (length (m .prg)) (length (m .chr)) (length (m .ram)) (length (m .ciram)) (length (m .exram)) ≡ true

@@ -4,3 +4,4 @@ pub mod Gates
 pub mod Refusals
 pub mod Fetching
 pub mod Promised
+pub mod Loadings

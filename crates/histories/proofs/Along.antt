@@ -1,0 +1,99 @@
+-- Along a history: the gate is open, refusals are 6 and 7 as told, and which histories there are.
+use mathlib.Core.Bool.{true, not}
+use mathlib.Core.List.{List, [], _∷_}
+use mathlib.Core.Path.{_≡_, refl, sym, _∙_, ap}
+use borrow.Author.Tests.{eqb-true, eq-eqb}
+use lib.ListN.{length}
+use Rattle.memory.proofs.Tests.{pick-keeps, and-left, and-right, and-both}
+use Rattle.state.specs.declared.gate.Gate.the-variants.{Open}
+use Rattle.state.specs.Gate.{gateMem}
+use Rattle.state.specs.Lengths.{prgTaken, chrTaken, ramTaken}
+use Rattle.board.specs.declared.Outcome.{Outcome}
+use Rattle.board.specs.Loads.{loadCall, loadedState}
+use Rattle.trace.specs.declared.Call.the-variants.{Clock, CpuRead, CpuWrite, PpuRegister, PpuFetch, Reset, PpuWrite}
+use Rattle.lines.specs.Told.{History}
+use Rattle.lines.specs.Machine.{step, Watched, atLoad, tilesBy, watched}
+use Rattle.lines.specs.Promise.{historyOf, Reached as Seen}
+use Rattle.lines.specs.Promise.Played.{at-load, taken}
+use Rattle.promises.proofs.Promised.{gate-stays-open}
+use Rattle.histories.specs.Boards.{Board, Made, says, leaves, number}
+use Rattle.histories.specs.Boards.Made.{call, peek, ppu-peek, sprite-peek, mirroring-asked, interrupt-asked, cpu-page, ppu-page}
+use Rattle.histories.specs.Histories.{Load, first, Reached, event}
+use Rattle.histories.specs.Accepted.{watch, refusal, acceptable, Along}
+use Rattle.histories.proofs.Behind.{exactly}
+use Rattle.histories.proofs.Following.{takes-over}
+
+-- A board behind an open gate.
+abbrev pub Opened : Board → Type 0
+Opened b = gateMem (b .state) (b .mem) ≡ Open
+
+stays-open : (b : Board) (c : Made) → Opened b → Opened (leaves b c)
+unfolding leaves
+stays-open b (call Clock) h = gate-stays-open .clock (b .state) (b .mem) h
+stays-open b (call (CpuRead a)) h = gate-stays-open .read (b .state) (b .mem) (a .0) h
+stays-open b (call (CpuWrite a v)) h = gate-stays-open .write (b .state) (b .mem) (a .0) v h
+stays-open b (call (PpuRegister a v)) h = gate-stays-open .register (b .state) (b .mem) (a .0) v h
+stays-open b (call (PpuFetch a)) h = gate-stays-open .fetch (b .state) (b .mem) (a .0) h
+stays-open b (call Reset) h = gate-stays-open .reset (b .state) (b .mem) h
+stays-open b (call (PpuWrite a v)) h = gate-stays-open .ppu-write (b .state) (b .mem) (a .0) v h
+stays-open b (peek a) h = h
+stays-open b (ppu-peek a) h = h
+stays-open b (sprite-peek a) h = h
+stays-open b mirroring-asked h = h
+stays-open b interrupt-asked h = h
+stays-open b (cpu-page a) h = h
+stays-open b (ppu-page a) h = h
+
+pub open-along : (l : Load) {cs : List Made} {b : Board} → Reached l cs b → Opened b
+open-along l at-load = gate-stays-open .load (l .mem) (l .as-ram) (l .mirroring) (l .accepted)
+open-along l (taken {s = b} c r t) = rw (t .left) (stays-open b c (open-along l r))
+
+-- The detector and the tile count, told by the calls alone -----------------------------------------------------------------------------
+
+pub load-watched : (l : Load) → watch (first l) ≡ atLoad
+unfolding loadCall loadedState
+load-watched l =
+    let P : Outcome → Type 0 = λ (o : Outcome). watch (record { state = o .state; mem = l .mem }) ≡ atLoad in
+    pick-keeps P (not (prgTaken (length (l .mem .prg)))) refl
+    (pick-keeps P (not (chrTaken (length (l .mem .chr)))) refl
+    (pick-keeps P (not (ramTaken (length (l .mem .ram)) (length (l .mem .ciram)) (length (l .mem .exram)))) refl refl))
+
+-- a history of the board is one of the detector with its tile count
+pub seen-along : (l : Load) {cs : List Made} {b : Board} → Reached l cs b → Seen (historyOf event cs) (watch b)
+unfolding historyOf
+seen-along l at-load = rw (load-watched l) at-load
+seen-along l (taken {s = b} {s' = b'} c r t) = taken (event c) (seen-along l r) (takes-over b b' c t)
+
+seen-is : {h : History} {w : Watched} → Seen h w → w ≡ watched h
+unfolding watched
+seen-is at-load = refl
+seen-is (taken e r t) = t .moved ∙ ap (λ (w : Watched). record { detector = step (w .detector) e; tiles = tilesBy w e }) (seen-is r)
+
+pub told-along : (l : Load) {cs : List Made} {b : Board} → Reached l cs b → watch b ≡ watched (historyOf event cs)
+told-along l r = seen-is (seen-along l r)
+
+-- Which histories there are -------------------------------------------------------------------------------------------------------------
+
+pub number-told : (l : Load) {cs : List Made} {b : Board} → Reached l cs b → (c : Made) → number (says b c) ≡ refusal (watched (historyOf event cs)) c
+number-told l {b = b} r c = exactly b c (open-along l r) ∙ ap (λ (w : Watched). refusal w c) (told-along l r)
+
+are-acceptable : (l : Load) {cs : List Made} {b : Board} → Reached l cs b → acceptable cs ≡ true
+unfolding acceptable
+are-acceptable l at-load = refl
+are-acceptable l (taken {cs = cs} {s = b} c r t) = and-both _ _ (are-acceptable l r) (eq-eqb _ 0 (sym (number-told l r c) ∙ t .accepted))
+
+pub are-reached : (l : Load) (cs : List Made) → acceptable cs ≡ true → (b : Board) × Reached l cs b
+unfolding acceptable
+are-reached l [] e = (first l, at-load)
+are-reached l (c ∷ cs) e =
+    let p = are-reached l cs (and-left (acceptable cs) _ e) in
+    let n : refusal (watched (historyOf event cs)) c ≡ 0 = eqb-true _ 0 (and-right (acceptable cs) _ e) in
+    (leaves (p .0) c, taken c (p .1) (record { accepted = number-told l (p .1) c ∙ n; left = refl }))
+
+pub along : Along
+along = record {
+  gate = λ l cs b r. open-along l r;
+  refused = λ l cs b r c. exactly b c (open-along l r);
+  told = λ l cs b r. told-along l r;
+  all-of-them = λ l cs. (λ p. are-acceptable l (p .1), are-reached l cs);
+}

@@ -1,0 +1,199 @@
+-- Behind an open gate, and where a call meets no refusal, the call is what its definition says there; and the number that a call gives behind
+-- an open gate.
+use Prim.Native.Nat.{ℕ, suc}
+use mathlib.Core.Bool.{Bool, true, false, not, false≢true}
+use mathlib.Core.Path.{_≡_, refl, sym, _∙_, ap}
+use native.Mathlib.Omega.{arith}
+use lib.Dec.{ltb}
+use Rattle.memory.specs.Bytes.{Mem, pageStored}
+use Rattle.memory.specs.Words.{pick, pageOf}
+use Rattle.memory.proofs.Tests.{split}
+use Rattle.answers.specs.declared.Answer.{Answer}
+use Rattle.answers.specs.declared.Answer.the-variants.{Nothing, Register, Served, Page, Blank, Refused}
+use Rattle.answers.specs.declared.Refusal.{Refusal}
+use Rattle.answers.specs.declared.Refusal.the-variants.{Prg, Chr, Ram, Buffers, State as StateBroken, Audio, Counter, Split, Kind, Number, Length}
+use Rattle.answers.specs.Letters.{letterOf, valueOf}
+use Rattle.answers.specs.Numbers.{numberOf}
+use Rattle.scanline.specs.Fetches.{countedAt}
+use Rattle.scanline.specs.Ranges.{counterRefused}
+use Rattle.scanline.specs.Steps.{clocked}
+use Rattle.state.specs.declared.gate.Gate.{Gate}
+use Rattle.state.specs.declared.gate.Gate.the-variants.{Open, Shut}
+use Rattle.state.specs.declared.State.{State}
+use Rattle.state.specs.Gate.{gateMem}
+use Rattle.state.specs.Ranges.{inRange}
+use Rattle.state.specs.With.{withIrq, withRegs}
+use Rattle.cpu.specs.Reads.{cpuAnswer, irqRead, audioRead}
+use Rattle.cpu.specs.Writes.{registerWritten, cpuStored, audioWrite}
+use Rattle.ppu.specs.Served.{countedServed}
+use Rattle.board.specs.declared.Interrupt.{Interrupt}
+use Rattle.board.specs.declared.Interrupt.the-variants.{Up, Down, Refused as NotTold}
+use Rattle.board.specs.declared.Outcome.{Outcome}
+use Rattle.board.specs.CpuSide.{cpuRead, cpuWrite}
+use Rattle.board.specs.Outcomes.{outcome, refused, After, afterOf, behind}
+use Rattle.board.specs.Whole.{resetRegs, resetCall, clockCall, toldPpu, ppuRegisterCall, interruptCall}
+use Rattle.board_ppu.specs.Fetch.{countedIrq, countedPpu, countedSplit, countedState, countedCall, patternCall, ppuFetch}
+use Rattle.board_ppu.specs.Peeks.{chrWordAt, chrAnswer, ppuPeek, spritePeek, ppuWrite}
+use Rattle.trace.specs.declared.Call.{Call}
+use Rattle.trace.specs.declared.Call.the-variants.{Clock, CpuRead, CpuWrite, PpuRegister, PpuFetch, Reset, PpuWrite}
+use Rattle.calls.specs.Called.{called}
+use Rattle.promises.specs.Refused.{isRefused, RefusedWith, isTold}
+use Rattle.promises.proofs.Gates.{in-range-of}
+use Rattle.promises.proofs.Fetching.{split-free}
+use Rattle.promises.proofs.Promised.{who-is-refused}
+use Rattle.histories.specs.Boards.{Board, Made, says, number, numberIn}
+use Rattle.histories.specs.Boards.Made.{call, peek, ppu-peek, sprite-peek, mirroring-asked, interrupt-asked, cpu-page, ppu-page}
+use Rattle.histories.specs.Boards.Said.{answers, interrupts}
+use Rattle.histories.specs.Accepted.{watch, refusal}
+
+-- A call that is not refused.
+abbrev pub fetched : State → Mem → ℕ → Outcome
+fetched s m a =
+    pick (countedAt a)
+    (outcome (countedServed (s .regs) (countedSplit s a) (countedIrq s a .«in_frame») (countedPpu s a) (m .exram) a (chrAnswer (s .«chr_pages») m a)) (countedState s a))
+    (pick (ltb a 0x2000) (patternCall s m a) (outcome (chrAnswer (s .«chr_pages») m a) s))
+
+abbrev pub done : Call → State → Mem → After
+done Clock s m = afterOf (outcome Nothing (withIrq s (clocked (s .irq)))) m
+done (CpuRead a) s m = afterOf (outcome (cpuAnswer s m (a .0)) (withIrq s (irqRead (s .irq) (a .0)))) m
+done (CpuWrite a v) s m = afterOf (outcome Nothing (registerWritten s (a .0) v)) (cpuStored s m (a .0) v)
+done (PpuRegister a v) s m = afterOf (outcome Nothing (toldPpu s (a .0) v)) m
+done (PpuFetch a) s m = afterOf (fetched s m (a .0)) m
+done Reset s m = afterOf (outcome Nothing (withRegs s (resetRegs (s .regs)))) m
+done (PpuWrite a v) s m = afterOf (outcome Nothing s) (pageStored m (pageOf (chrWordAt (s .«chr_pages») (a .0))) (a .0) v)
+
+-- A test that picks no number is not met.
+pub unmet : (t : Bool) (n : ℕ) → pick t (suc n) 0 ≡ 0 → t ≡ false
+unmet true n e = absurd (omega arith)
+unmet false n e = refl
+
+pub unfetched : (s : State) (m : Mem) (a : ℕ) → gateMem s m ≡ Open → counterRefused (s .irq) (s .ppu .«tile_number») a ≡ false → ppuFetch s m a ≡ fetched s m a
+unfolding ppuFetch countedCall
+unfetched s m a h free =
+    rw (h, free) (split (countedAt a) (λ t. rw (t, split-free s a (in-range-of s m h))) (λ t. rw t))
+
+-- Behind an open gate.
+pub is-done : (b : Board) (c : Call) → gateMem (b .state) (b .mem) ≡ Open → refusal (watch b) (call c) ≡ 0 → called c (b .state) (b .mem) ≡ done c (b .state) (b .mem)
+unfolding refusal clockCall cpuRead cpuWrite ppuRegisterCall resetCall ppuWrite
+is-done b Clock h e = rw (in-range-of (b .state) (b .mem) h)
+is-done b (CpuRead a) h e = rw (h, unmet (audioRead (a .0)) 5 e)
+is-done b (CpuWrite a v) h e = rw (h, unmet (audioWrite (a .0)) 5 e)
+is-done b (PpuRegister a v) h e = rw (in-range-of (b .state) (b .mem) h)
+is-done b (PpuFetch a) h e = rw (unfetched (b .state) (b .mem) (a .0) h (unmet (counterRefused (b .state .irq) (b .state .ppu .«tile_number») (a .0)) 6 e))
+is-done b Reset h e = rw (in-range-of (b .state) (b .mem) h)
+is-done b (PpuWrite a v) h e = rw h
+
+-- The numbers of answers.
+pub numbered : (r : Refusal) {A : Type 0} → numberOf r ≡ 0 → A
+numbered Prg e = absurd (omega arith)
+numbered Chr e = absurd (omega arith)
+numbered Ram e = absurd (omega arith)
+numbered Buffers e = absurd (omega arith)
+numbered StateBroken e = absurd (omega arith)
+numbered Audio e = absurd (omega arith)
+numbered Counter e = absurd (omega arith)
+numbered Split e = absurd (omega arith)
+numbered Kind e = absurd (omega arith)
+numbered Number e = absurd (omega arith)
+numbered Length e = absurd (omega arith)
+
+given : (a : Answer) → isRefused a ≡ false → numberIn a ≡ 0
+given Nothing h = refl
+given (Register v) h = refl
+given (Served v) h = refl
+given (Page v) h = refl
+given Blank h = refl
+given (Refused r) h = absurd (false≢true (sym h))
+
+pub nothing : (a : Answer) → a ≡ Nothing → numberIn a ≡ 0
+nothing a e = rw e
+
+numbers : (a : Answer) (n : ℕ) → letterOf a ≡ 0x21 → valueOf a ≡ n → numberIn a ≡ n
+numbers Nothing n l v = absurd (omega arith)
+numbers (Register x) n l v = absurd (omega arith)
+numbers (Served x) n l v = absurd (omega arith)
+numbers (Page x) n l v = absurd (omega arith)
+numbers Blank n l v = absurd (omega arith)
+numbers (Refused r) n l v = v
+
+pub with-number : (n : ℕ) (s : State) (o : Outcome) → RefusedWith n s o → numberIn (o .answer) ≡ n
+with-number n s o r = numbers (o .answer) n (r .letter) (r .number)
+
+pub told : (i : Interrupt) → isTold i ≡ true → number (interrupts i) ≡ 0
+unfolding number
+told Up e = refl
+told Down e = refl
+told (NotTold r) e = absurd (false≢true e)
+
+read-exactly : (s : State) (m : Mem) (a : ℕ) → gateMem s m ≡ Open → numberIn (cpuRead s m a .answer) ≡ pick (audioRead a) 6 0
+read-exactly s m a h =
+    split (audioRead a)
+    (λ t. rw t (with-number 6 s (cpuRead s m a) (who-is-refused .read-audio s m a h t)))
+    (λ t. rw t (given (cpuRead s m a .answer) (who-is-refused .read-else s m a h t)))
+
+-- Behind an open gate a call gives 6 or 7, or none, as the definition says.
+pub exactly : (b : Board) (c : Made) → gateMem (b .state) (b .mem) ≡ Open → number (says b c) ≡ refusal (watch b) c
+unfolding refusal says number
+exactly b (call Clock) h = nothing (clockCall (b .state) .answer) (who-is-refused .clock (b .state) (in-range-of (b .state) (b .mem) h))
+exactly b (call (CpuRead a)) h = read-exactly (b .state) (b .mem) (a .0) h
+exactly b (call (CpuWrite a v)) h =
+    split (audioWrite (a .0))
+    (λ t. rw t (with-number 6 (b .state) (cpuWrite (b .state) (b .mem) (a .0) v .out) (who-is-refused .write-audio (b .state) (b .mem) (a .0) v h t)))
+    (λ t. rw t (nothing (cpuWrite (b .state) (b .mem) (a .0) v .out .answer) (who-is-refused .write-else (b .state) (b .mem) (a .0) v h t)))
+exactly b (call (PpuRegister a v)) h = nothing (ppuRegisterCall (b .state) (a .0) v .answer) (who-is-refused .register (b .state) (a .0) v (in-range-of (b .state) (b .mem) h))
+exactly b (call (PpuFetch a)) h =
+    split (counterRefused (b .state .irq) (b .state .ppu .«tile_number») (a .0))
+    (λ t. rw t (with-number 7 (b .state) (ppuFetch (b .state) (b .mem) (a .0)) (who-is-refused .fetch-counter (b .state) (b .mem) (a .0) h t)))
+    (λ t. rw t (given (ppuFetch (b .state) (b .mem) (a .0) .answer) (who-is-refused .fetch-else (b .state) (b .mem) (a .0) h t)))
+exactly b (call Reset) h = nothing (resetCall (b .state) .answer) (who-is-refused .reset (b .state) (in-range-of (b .state) (b .mem) h))
+exactly b (call (PpuWrite a v)) h = nothing (ppuWrite (b .state) (b .mem) (a .0) v .out .answer) (who-is-refused .ppu-write (b .state) (b .mem) (a .0) v h)
+exactly b (peek a) h = rw (who-is-refused .peek (b .state) (b .mem) (a .0)) (read-exactly (b .state) (b .mem) (a .0) h)
+exactly b (ppu-peek a) h = given (ppuPeek (b .state) (b .mem) (a .0)) (who-is-refused .ppu-peek (b .state) (b .mem) (a .0) h)
+exactly b (sprite-peek a) h = given (spritePeek (b .state) (b .mem) (a .0)) (who-is-refused .sprite-peek (b .state) (b .mem) (a .0) h)
+exactly b mirroring-asked h = rw (who-is-refused .mirroring (b .state) (in-range-of (b .state) (b .mem) h))
+exactly b interrupt-asked h = told (interruptCall (b .state)) (who-is-refused .interrupt (b .state) (in-range-of (b .state) (b .mem) h))
+exactly b (cpu-page a) h = refl
+exactly b (ppu-page a) h = refl
+
+-- A call that is accepted meets no refusal, and is done.
+pub gate-case : {A : Type 0} (g : Gate) → (g ≡ Open → A) → ((r : Refusal) → g ≡ Shut r → A) → A
+gate-case Open f k = f refl
+gate-case (Shut r) f k = k r refl
+
+abbrev Passed : Board → Call → Type 0
+Passed b c = (called c (b .state) (b .mem) ≡ done c (b .state) (b .mem)) × (refusal (watch b) (call c) ≡ 0)
+
+through : (b : Board) (c : Call) → number (says b (call c)) ≡ 0 → gateMem (b .state) (b .mem) ≡ Open → Passed b c
+through b c n h = let e : refusal (watch b) (call c) ≡ 0 = sym (exactly b (call c) h) ∙ n in (is-done b c h e, e)
+
+-- From what is accepted: the gate was open, or the state in range.
+module _ (s : State) (m : Mem) (a : ℕ) where
+  read-opens : numberIn (cpuRead s m a .answer) ≡ 0 → gateMem s m ≡ Open
+  unfolding cpuRead
+  read-opens n = gate-case (gateMem s m) (λ o. o) (λ r h. numbered r (rw h at n))
+
+  fetch-opens : numberIn (ppuFetch s m a .answer) ≡ 0 → gateMem s m ≡ Open
+  unfolding ppuFetch
+  fetch-opens n = gate-case (gateMem s m) (λ o. o) (λ r h. numbered r (rw h at n))
+
+  write-opens : (v : ℕ) → numberIn (cpuWrite s m a v .out .answer) ≡ 0 → gateMem s m ≡ Open
+  unfolding cpuWrite
+  write-opens v n = gate-case (gateMem s m) (λ o. o) (λ r h. numbered r (rw h at n))
+
+  store-opens : (v : ℕ) → numberIn (ppuWrite s m a v .out .answer) ≡ 0 → gateMem s m ≡ Open
+  unfolding ppuWrite
+  store-opens v n = gate-case (gateMem s m) (λ o. o) (λ r h. numbered r (rw h at n))
+
+alone : (b : Bool) {x : Outcome} (s : State) → numberIn (pick (not b) (refused s StateBroken) x .answer) ≡ 0 → pick (not b) (refused s StateBroken) x ≡ x
+alone true s n = refl
+alone false s n = numbered StateBroken n
+
+pub accepted-passes : (b : Board) (c : Call) → number (says b (call c)) ≡ 0 → Passed b c
+unfolding says number refusal clockCall ppuRegisterCall resetCall
+accepted-passes b Clock n = (ap (λ (o : Outcome). afterOf o (b .mem)) (alone (inRange (b .state)) (b .state) n), refl)
+accepted-passes b (CpuRead a) n = through b (CpuRead a) n (read-opens (b .state) (b .mem) (a .0) n)
+accepted-passes b (CpuWrite a v) n = through b (CpuWrite a v) n (write-opens (b .state) (b .mem) (a .0) v n)
+accepted-passes b (PpuRegister a v) n = (ap (λ (o : Outcome). afterOf o (b .mem)) (alone (inRange (b .state)) (b .state) n), refl)
+accepted-passes b (PpuFetch a) n = through b (PpuFetch a) n (fetch-opens (b .state) (b .mem) (a .0) n)
+accepted-passes b Reset n = (ap (λ (o : Outcome). afterOf o (b .mem)) (alone (inRange (b .state)) (b .state) n), refl)
+accepted-passes b (PpuWrite a v) n = through b (PpuWrite a v) n (store-opens (b .state) (b .mem) (a .0) v n)

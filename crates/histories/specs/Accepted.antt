@@ -1,0 +1,60 @@
+-- Which calls are accepted along a history, and which histories there are: told by the calls alone. Demand 1: "A refusal has one number from
+-- 01, is given exactly when 01 says". Along a history 6 and 7 are the only ones, so a board that refuses every call is shut out, and so is one
+-- that serves its first call and then refuses.
+-- Assumes nothing.
+use Prim.Native.Nat.{ℕ}
+use mathlib.Core.Path.{_≡_}
+use mathlib.Core.Logic.{_↔_}
+use mathlib.Core.Bool.{Bool, true, _&&_}
+use mathlib.Core.List.{List, [], _∷_}
+use lib.Dec.{eqb}
+use Rattle.memory.specs.Words.{pick}
+use Rattle.scanline.specs.Ranges.{counterRefused}
+use Rattle.state.specs.declared.gate.Gate.the-variants.{Open}
+use Rattle.state.specs.Gate.{gateMem}
+use Rattle.cpu.specs.Reads.{audioRead}
+use Rattle.cpu.specs.Writes.{audioWrite}
+use Rattle.trace.specs.declared.Call.the-variants.{Clock, CpuRead, CpuWrite, PpuRegister, PpuFetch, Reset, PpuWrite}
+use Rattle.lines.specs.Machine.{Watched, watched}
+use Rattle.lines.specs.Promise.{historyOf}
+use Rattle.histories.specs.Boards.{Board, Made, says, number}
+use Rattle.histories.specs.Boards.Made.{call, peek, ppu-peek, sprite-peek, mirroring-asked, interrupt-asked, cpu-page, ppu-page}
+use Rattle.histories.specs.Histories.{Load, Reached, event}
+
+-- What refusal 7 looks at: the detector and the tile count.
+abbrev pub watch : Board → Watched
+watch b = record { detector = b .state .irq; tiles = b .state .ppu .«tile_number» }
+
+-- The refusal that a call meets along a history, 0 where it meets none. 6: "CPU read or peek of $5010, $5015; CPU write of $5000, $5002-$5004,
+-- $5006, $5007, $5010, $5011, $5015"; 7: "a fetch at $2000-$3EFF would need, even for a moment, a tile count above 4,294,967,293 or a line
+-- counter above 65,279".
+unfoldable pub refusal : Watched → Made → ℕ
+refusal w (call Clock) = 0
+refusal w (call (CpuRead a)) = pick (audioRead (a .0)) 6 0
+refusal w (call (CpuWrite a v)) = pick (audioWrite (a .0)) 6 0
+refusal w (call (PpuRegister a v)) = 0
+refusal w (call (PpuFetch a)) = pick (counterRefused (w .detector) (w .tiles) (a .0)) 7 0
+refusal w (call Reset) = 0
+refusal w (call (PpuWrite a v)) = 0
+refusal w (peek a) = pick (audioRead (a .0)) 6 0
+refusal w (ppu-peek a) = 0
+refusal w (sprite-peek a) = 0
+refusal w mirroring-asked = 0
+refusal w interrupt-asked = 0
+refusal w (cpu-page a) = 0
+refusal w (ppu-page a) = 0
+
+-- Calls that meet none, each after those before it.
+unfoldable pub acceptable : List Made → Bool
+acceptable [] = true
+acceptable (c ∷ cs) = acceptable cs && eqb (refusal (watched (historyOf event cs)) c) 0
+
+pub record Along : Type 0 where
+  -- an accepted call leads to no refusal 4 or 5
+  pub gate : (l : Load) (cs : List Made) (b : Board) → Reached l cs b → gateMem (b .state) (b .mem) ≡ Open
+  -- the next call is refused exactly when 01 says, with that number (that it then changes nothing: `gives-back` of specs/Refusals.antt)
+  pub refused : (l : Load) (cs : List Made) (b : Board) → Reached l cs b → (c : Made) → number (says b c) ≡ refusal (watch b) c
+  -- what refusal 7 looks at is told by the calls alone
+  pub told : (l : Load) (cs : List Made) (b : Board) → Reached l cs b → watch b ≡ watched (historyOf event cs)
+  -- and so are the histories: there is one of these calls from every load, if they meet no refusal, and else from none
+  pub all-of-them : (l : Load) (cs : List Made) → ((b : Board) × Reached l cs b) ↔ (acceptable cs ≡ true)
