@@ -1,7 +1,7 @@
 -- The loop over records that prints: what holds at its head, and what one line does to that.
 use Prim.Native.Nat.{ℕ, zero, suc, _+_, _*_, _<_, _≤_}
 use mathlib.Core.Bool.{true, false}
-use mathlib.Core.List.{List, _++_}
+use mathlib.Core.List.{List}
 use mathlib.Core.Path.{_≡_, refl, sym, _∙_, ap}
 use native.Mathlib.Omega.{arith}
 use lib.ListN.{length, getD}
@@ -74,5 +74,6 @@ module _ (trace log : List ℕ) (e : Ending) (all : Sheet) (to at n : ℕ) (out 
           rest = ap (λ (s : Sheet). written s (printedFrom k trace next (n + 1) log e)) w ∙ sym (joined (sheet out to) line (printedFrom k trace next (n + 1) log e)) ∙ (rw (found, f) at r);
         }
 
-    pub goes : (to' : ℕ) (out' : List ℕ) → Printing trace log e all to at n out → stoppedAt e at ≡ false → sheet out' to' ≡ written (sheet out to) line → Printing trace log e all to' next (n + 1) out'
-    goes to' out' p = goes-by to' out' (p .fuel) (p .enough) p (p .rest)
+    pub goes : (to' : ℕ) (out' : List ℕ) (kind first second : ℕ) → kind ≡ kindOf call → first ≡ getD log (2 * n) 0 → second ≡ getD log (2 * n + 1) 0
+        → Printing trace log e all to at n out → stoppedAt e at ≡ false → sheet out' to' ≡ written (sheet out to) (loggedLine n kind first second) → Printing trace log e all to' next (n + 1) out'
+    goes to' out' kind first second ek ef es p f w = goes-by to' out' (p .fuel) (p .enough) p (p .rest) f (rw (ek, ef, es) at w)

@@ -5,49 +5,34 @@ use mathlib.Core.Path.{_∙_, ap}
 use borrow.Author.Needs.{needs}
 use Rattle.transcript.proofs.cartridge.print_over.Statement.{statement}
 use Rattle.transcript.proofs.cartridge.print_over.Tie as tie
-use Rattle.transcript.proofs.cartridge.print_over.Reads as reads
-use Rattle.transcript.proofs.cartridge.print_over.Lts as lts
-use Rattle.board.proofs.loads.load.Reads as load-reads
-use Rattle.player.proofs.replay.Reads as replay-reads
-use Rattle.transcript.proofs.printed.print.Reads as print-reads
 
--- src/cartridge.rt:38:9
 load-requires : tie.Need-load-requires
 load-requires c κs = search needs
 
--- src/cartridge.rt:40:9
 replay-requires : tie.Need-replay-requires
 replay-requires c κs = search needs
 
--- src/cartridge.rt:42:5
 print-requires : tie.Need-print-requires
 print-requires c κs = search needs
 
--- src/cartridge.rt:25:1
 same-length : tie.Need-same-length
 same-length c = search needs
 
--- src/cartridge.rt:25:1
 same-length-2 : tie.Need-same-length-2
 same-length-2 c = search needs
 
--- src/cartridge.rt:25:1
 same-length-3 : tie.Need-same-length-3
 same-length-3 c = search needs
 
--- src/cartridge.rt:25:1
 same-length-4 : tie.Need-same-length-4
 same-length-4 c = search needs
 
--- src/cartridge.rt:25:1
 same-length-5 : tie.Need-same-length-5
 same-length-5 c = search needs
 
--- src/cartridge.rt:25:1
 same-length-6 : tie.Need-same-length-6
 same-length-6 c = search needs
 
--- src/cartridge.rt:25:1
 returns : tie.Need-returns
 returns c = c .before .before .print .ensures ∙ ap (written _) (over _ _ _ _ _ (c .before .before .before .before .before .before .before .before .before .before .before .before .before .before .before .before .before .before .before .before .before .before .load .ensures) (c .before .before .before .before .before .before .before .before .before .before .before .before .before .before .before .replay .ensures))
 

@@ -5,38 +5,26 @@ use mathlib.Core.Path.{sym, _∙_}
 use borrow.Author.Needs.{needs}
 use Rattle.transcript.proofs.printed.print.Statement.{statement}
 use Rattle.transcript.proofs.printed.print.Tie as tie
-use Rattle.transcript.proofs.printed.print.Reads as reads
-use Rattle.transcript.proofs.printed.print.Lts as lts
-use Rattle.text.proofs.lines.too_long_line.Reads as too-long-line-reads
-use Rattle.trace.proofs.too_long.Reads as too-long-reads
-use Rattle.transcript.proofs.printed.print_records.Reads as print-records-reads
 
--- src/printed.rt:67:8
 too-long-requires : tie.Need-too-long-requires
 too-long-requires c κs = search needs
 
--- src/printed.rt:68:9
 too-long-line-requires : tie.Need-too-long-line-requires
 too-long-line-requires c κs = search needs
 
--- src/printed.rt:68:9
 same-length : tie.Need-same-length
 same-length c = search needs
 
--- src/printed.rt:68:9
 returns : tie.Need-returns
 unfolding printed
 returns c = rw (← c .before .before .before .before .before .too-long .ensures, c .before .before .before .before .if1 .taken) (c .before .before .too-long-line .ensures)
 
--- src/printed.rt:70:5
 print-records-requires : tie.Need-print-records-requires
 print-records-requires c κs = ltb-false _ _ (sym (c .before .before .too-long .ensures) ∙ c .before .if1 .left)
 
--- src/printed.rt:64:1
 same-length-2 : tie.Need-same-length-2
 same-length-2 c = search needs
 
--- src/printed.rt:64:1
 returns-2 : tie.Need-returns-2
 unfolding printed
 returns-2 c = rw (← c .before .before .before .before .before .too-long .ensures, c .before .before .before .before .if1 .left) (c .before .before .print-records .ensures)

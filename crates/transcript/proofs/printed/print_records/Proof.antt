@@ -10,17 +10,6 @@ use mathlib.Core.Path.{_≡_, refl, sym, _∙_}
 use Prim.Native.Nat.{suc, _-_}
 use Rattle.transcript.proofs.printed.print_records.Statement.{statement}
 use Rattle.transcript.proofs.printed.print_records.Tie as tie
-use Rattle.transcript.proofs.printed.print_records.Reads as reads
-use Rattle.transcript.proofs.printed.print_records.Lts as lts
-use Rattle.memory.proofs.bytes.byte.Reads as byte-reads
-use Rattle.text.proofs.lines.end_line.Reads as end-line-reads
-use Rattle.text.proofs.lines.logged_line.Reads as logged-line-reads
-use Rattle.text.proofs.lines.refused_line.Reads as refused-line-reads
-use Rattle.text.proofs.lines.unreadable_line.Reads as unreadable-line-reads
-use Rattle.trace.proofs.kind_of.Reads as kind-of-reads
-use Rattle.trace.proofs.records.record_at.Reads as record-at-reads
-use Rattle.transcript.proofs.printed.stopped_at.Reads as stopped-at-reads
-use Rattle.transcript.proofs.printed.why_of.Reads as why-of-reads
 
 abbrev Inv-loop : tie.InvT-loop
 Inv-loop out₀ trace log ending to₀ at₀ n₀ out to at n =
@@ -29,123 +18,93 @@ Inv-loop out₀ trace log ending to₀ at₀ n₀ out to at n =
 abbrev μ-loop : tie.MeasureT-loop
 μ-loop out₀ trace log ending to₀ at₀ n₀ out to at n = length trace - at
 
--- src/printed.rt:38:5
 loop-holds : tie.Need-loop-holds Inv-loop μ-loop
 loop-holds c = (begins _ _ _ _ (c .before .before .before .pre), refl)
 
--- src/printed.rt:39:13
 record-at-requires : tie.Need-record-at-requires Inv-loop μ-loop
 record-at-requires c κs = search needs
 
--- src/printed.rt:42:45
 enum-told : tie.Need-enum-told Inv-loop μ-loop
 enum-told c = search needs
 
--- src/printed.rt:42:54
 cast-end-line : tie.Need-cast-end-line Inv-loop μ-loop
 cast-end-line c = omega (arith, c .before .before .before .before .loop .inv .0 .counted, c .before .before .before .before .loop .inv .0 .inside, c .before .before .before .before .loop .inv .0 .short)
 
--- src/printed.rt:42:23
 end-line-requires : tie.Need-end-line-requires Inv-loop μ-loop
 end-line-requires c κs = search needs
 
--- src/printed.rt:44:28
 enum-known-found : tie.Need-enum-known-found Inv-loop μ-loop
 enum-known-found c = search needs
 
--- src/printed.rt:45:61
 cast-unreadable-line : tie.Need-cast-unreadable-line Inv-loop μ-loop
 cast-unreadable-line c = omega (arith, c .before .before .before .before .before .loop .inv .0 .counted, c .before .before .before .before .before .loop .inv .0 .inside, c .before .before .before .before .before .loop .inv .0 .short)
 
--- src/printed.rt:45:23
 unreadable-line-requires : tie.Need-unreadable-line-requires Inv-loop μ-loop
 unreadable-line-requires c κs = search needs
 
--- src/printed.rt:47:27
 enum-known-found-2 : tie.Need-enum-known-found-2 Inv-loop μ-loop
 enum-known-found-2 c = search needs
 
--- src/printed.rt:48:21
 kind-of-requires : tie.Need-kind-of-requires Inv-loop μ-loop
 kind-of-requires c κs = search needs
 
--- src/printed.rt:49:20
 stopped-at-requires : tie.Need-stopped-at-requires Inv-loop μ-loop
 stopped-at-requires c κs = search needs
 
--- src/printed.rt:50:25
 why-of-requires : tie.Need-why-of-requires Inv-loop μ-loop
 why-of-requires c κs = search needs
 
--- src/printed.rt:51:62
 cast-refused-line : tie.Need-cast-refused-line Inv-loop μ-loop
 cast-refused-line c = omega (arith, c .before .before .before .before .before .before .before .before .before .loop .inv .0 .counted, c .before .before .before .before .before .before .before .before .before .loop .inv .0 .inside, c .before .before .before .before .before .before .before .before .before .loop .inv .0 .short)
 
--- src/printed.rt:51:27
 refused-line-requires : tie.Need-refused-line-requires Inv-loop μ-loop
 refused-line-requires c κs = search needs
 
--- src/printed.rt:53:54
 mul-byte : tie.Need-mul-byte Inv-loop μ-loop
 mul-byte c = omega (arith, c .before .before .before .before .before .before .before .loop .inv .0 .counted, c .before .before .before .before .before .before .before .loop .inv .0 .inside, c .before .before .before .before .before .before .before .loop .inv .0 .short)
 
--- src/printed.rt:53:21
 byte-requires : tie.Need-byte-requires Inv-loop μ-loop
 byte-requires c κs = search needs
 
--- src/printed.rt:54:55
 mul-byte-2 : tie.Need-mul-byte-2 Inv-loop μ-loop
 mul-byte-2 c = omega (arith, c .before .before .before .before .before .before .before .before .loop .inv .0 .counted, c .before .before .before .before .before .before .before .before .loop .inv .0 .inside, c .before .before .before .before .before .before .before .before .loop .inv .0 .short)
 
--- src/printed.rt:54:55
 add-byte : tie.Need-add-byte Inv-loop μ-loop
 add-byte c = omega (arith, c .before .before .before .before .before .before .before .before .loop .inv .0 .counted, c .before .before .before .before .before .before .before .before .loop .inv .0 .inside, c .before .before .before .before .before .before .before .before .loop .inv .0 .short)
 
--- src/printed.rt:54:21
 byte-requires-2 : tie.Need-byte-requires-2 Inv-loop μ-loop
 byte-requires-2 c κs = search needs
 
--- src/printed.rt:55:56
 cast-logged-line : tie.Need-cast-logged-line Inv-loop μ-loop
 cast-logged-line c = omega (arith, c .before .before .before .before .before .before .before .before .before .before .loop .inv .0 .counted, c .before .before .before .before .before .before .before .before .before .before .loop .inv .0 .inside, c .before .before .before .before .before .before .before .before .before .before .loop .inv .0 .short)
 
--- src/printed.rt:55:17
 logged-line-requires : tie.Need-logged-line-requires Inv-loop μ-loop
 logged-line-requires c κs = search needs
 
--- src/printed.rt:57:17
 add-n : tie.Need-add-n Inv-loop μ-loop
 add-n c = omega (arith, c .before .before .before .before .before .before .before .before .before .before .before .before .before .loop .inv .0 .counted, c .before .before .before .before .before .before .before .before .before .before .before .before .before .loop .inv .0 .inside, c .before .before .before .before .before .before .before .before .before .before .before .before .before .loop .inv .0 .short)
 
--- src/printed.rt:38:5
 loop-less : tie.Need-loop-less Inv-loop μ-loop
 loop-less c = omega (arith, record-advances _ _ _ _ (sym (c .before .before .before .before .before .before .before .before .before .before .before .before .record-at .ensures) ∙ c .before .before .before .before .before .before .before .before .before .before .found2 .given .1) .0, record-advances _ _ _ _ (sym (c .before .before .before .before .before .before .before .before .before .before .before .before .record-at .ensures) ∙ c .before .before .before .before .before .before .before .before .before .before .found2 .given .1) .1)
 
--- src/printed.rt:38:5
 loop-again : tie.Need-loop-again Inv-loop μ-loop
-loop-again c = (goes _ _ _ _ _ _ _ _ _ _ (sym (c .before .before .before .before .before .before .before .before .before .before .before .before .record-at .ensures) ∙ c .before .before .before .before .before .before .before .before .before .before .found2 .given .1) _ _ (c .before .before .before .before .before .before .before .before .before .before .before .before .before .loop .inv .0) (sym (c .before .before .before .before .before .before .before .stopped-at .ensures) ∙ c .before .before .before .before .before .before .if1 .left) (rw (← c .before .before .before .before .before .before .before .before .kind-of .ensures, ← c .before .before .before .before .before .byte .ensures, ← c .before .before .before .before .byte2 .ensures) (c .before .before .logged-line .ensures)), search needs)
+loop-again c = (goes _ _ _ _ _ _ _ _ _ _ (sym (c .before .before .before .before .before .before .before .before .before .before .before .before .record-at .ensures) ∙ c .before .before .before .before .before .before .before .before .before .before .found2 .given .1) _ _ _ _ _ (c .before .before .before .before .before .before .before .before .kind-of .ensures) (c .before .before .before .before .before .byte .ensures) (c .before .before .before .before .byte2 .ensures) (c .before .before .before .before .before .before .before .before .before .before .before .before .before .loop .inv .0) (sym (c .before .before .before .before .before .before .before .stopped-at .ensures) ∙ c .before .before .before .before .before .before .if1 .left) (c .before .before .logged-line .ensures), search needs)
 
--- src/printed.rt:31:1
 same-length : tie.Need-same-length Inv-loop μ-loop
 same-length c = search needs
 
--- src/printed.rt:31:1
 returns : tie.Need-returns Inv-loop μ-loop
 returns c = ends _ _ _ _ _ _ _ _ _ (c .before .before .before .before .before .before .before .loop .inv .0) (sym (c .before .before .before .before .before .before .record-at .ensures) ∙ c .before .before .before .before .enum-told .given .1) (c .before .before .end-line .ensures)
 
--- src/printed.rt:31:1
 same-length-2 : tie.Need-same-length-2 Inv-loop μ-loop
 same-length-2 c = search needs
 
--- src/printed.rt:31:1
 returns-2 : tie.Need-returns-2 Inv-loop μ-loop
 returns-2 c = unreadable _ _ _ _ _ _ _ _ _ _ (c .before .before .before .before .before .before .before .before .loop .inv .0) (sym (c .before .before .before .before .before .before .before .record-at .ensures) ∙ c .before .before .before .before .before .found .given .1) (c .before .before .unreadable-line .ensures)
 
--- src/printed.rt:31:1
 same-length-3 : tie.Need-same-length-3 Inv-loop μ-loop
 same-length-3 c = search needs
 
--- src/printed.rt:31:1
 returns-3 : tie.Need-returns-3 Inv-loop μ-loop
 returns-3 c = refused _ _ _ _ _ _ _ _ _ _ (sym (c .before .before .before .before .before .before .before .before .before .before .before .record-at .ensures) ∙ c .before .before .before .before .before .before .before .before .before .found2 .given .1) _ (c .before .before .before .before .before .before .before .before .before .before .before .before .loop .inv .0) (sym (c .before .before .before .before .before .before .stopped-at .ensures) ∙ c .before .before .before .before .before .if1 .taken) (rw (← c .before .before .before .before .before .before .before .kind-of .ensures, ← c .before .before .before .before .why-of .ensures) (c .before .before .refused-line .ensures))
 

@@ -2,22 +2,16 @@
 use borrow.Author.Needs.{needs}
 use Rattle.transcript.proofs.printed.stopped_at.Statement.{statement}
 use Rattle.transcript.proofs.printed.stopped_at.Tie as tie
-use Rattle.transcript.proofs.printed.stopped_at.Reads as reads
-use Rattle.transcript.proofs.printed.stopped_at.Lts as lts
 
--- src/printed.rt:16:28
 enum-told : tie.Need-enum-told
 enum-told c = search needs
 
--- src/printed.rt:17:25
 enum-known-ending : tie.Need-enum-known-ending
 enum-known-ending c = search needs
 
--- src/printed.rt:12:1
 returns : tie.Need-returns
 returns c = search needs
 
--- src/printed.rt:12:1
 returns-2 : tie.Need-returns-2
 returns-2 c = rw (c .before .ending .given .1)
 
