@@ -33,7 +33,7 @@ use Rattle.player.specs.Logs.{logLetter, logged}
 use Rattle.player.specs.Replay.{Left, ended, answered, playedFrom, played}
 
 -- An answer that is no refusal goes on.
-answered-given : {A : Type 0} (a : Answer) (f : Refusal → A) (x : A) → Given a → answered a f x ≡ x
+pub answered-given : {A : Type 0} (a : Answer) (f : Refusal → A) (x : A) → Given a → answered a f x ≡ x
 answered-given Nothing f x g = refl
 answered-given (Register v) f x g = refl
 answered-given (Served v) f x g = refl
@@ -66,7 +66,7 @@ same-on : {l m n : Mem} → SameSizes l m → SameSizes m n → SameSizes l n
 same-on p q =
     record { prg = q .prg ∙ p .prg; chr = q .chr ∙ p .chr; ram = q .ram ∙ p .ram; ciram = q .ciram ∙ p .ciram; exram = q .exram ∙ p .exram }
 
-logged-length : (log : List ℕ) (n : ℕ) (a : Answer) (up : Bool) → length (logged log n a up) ≡ length log
+pub logged-length : (log : List ℕ) (n : ℕ) (a : Answer) (up : Bool) → length (logged log n a up) ≡ length log
 unfolding logged
 logged-length log n a up = length-set (set log (2 * n) (logLetter a up)) (2 * n + 1) (valueOf a) ∙ length-set log (2 * n) (logLetter a up)
 

@@ -1,3 +1,4 @@
 pub mod Printing
 pub mod Overs
 pub mod Counting
+pub mod Telling

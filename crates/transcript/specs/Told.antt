@@ -1,0 +1,38 @@
+-- The lines of a replay by the board's definitions alone: no log is looked at. What is printed is these lines, wherever the log has room.
+-- Assumes nothing.
+use Prim.Native.Nat.{ℕ, zero, suc, _+_, _*_, _≤_}
+use mathlib.Core.Bool.{false}
+use mathlib.Core.List.{List, [], _++_}
+use mathlib.Core.Path.{_≡_}
+use lib.ListN.{length}
+use Rattle.memory.specs.Bytes.{Mem}
+use Rattle.memory.specs.Words.{pick}
+use Rattle.answers.specs.declared.Refusal.{Refusal}
+use Rattle.registers.specs.declared.Mirroring.the-variants.{Horizontal}
+use Rattle.scanline.specs.Steps.{interruptUp}
+use Rattle.state.specs.declared.State.{State}
+use Rattle.board.specs.Loads.{loadCall}
+use Rattle.trace.specs.declared.Call.{Call}
+use Rattle.trace.specs.Records.{kindOf, recordAt, tooLong}
+use Rattle.text.specs.Lines.{acceptedLine, refusedLine, unreadableLine, tooLongLine, endLine}
+use Rattle.calls.specs.Called.{called}
+use Rattle.player.specs.Replay.{found, answered, playedFrom}
+use Rattle.transcript.specs.Printed.{printedFrom}
+
+-- The lines from record n on, which begins at a place; at most so many. "One line per record: record number, kind, answer, interrupt 0 or 1." "A
+-- refused call prints number, kind, `!`, refusal; an unreadable record prints number, `?`, refusal; either ends it." "Else `end` and the count."
+unfoldable pub toldFrom : ℕ → List ℕ → ℕ → ℕ → State → Mem → List ℕ
+toldFrom zero trace at n s m = []
+toldFrom (suc k) trace at n s m =
+    found (recordAt trace at)
+    (endLine n)
+    (λ (why : Refusal). unreadableLine n why)
+    (λ (call : Call) (next : ℕ). let after = called call s m in
+    answered (after .out .answer)
+    (λ (why : Refusal). refusedLine n (kindOf call) why)
+    (acceptedLine n (kindOf call) (after .out .answer) (interruptUp (after .out .state .irq)) ++ toldFrom k trace next (n + 1) (after .out .state) (after .mem)))
+
+abbrev pub PrintedIsTold : Type 0
+PrintedIsTold =
+    (k : ℕ) (trace : List ℕ) (at n : ℕ) (s : State) (m : Mem) (log : List ℕ) → n ≤ at → 2 * length trace ≤ length log
+    → printedFrom k trace at n (playedFrom k trace at n s m log .log) (playedFrom k trace at n s m log .out .ending) ≡ toldFrom k trace at n s m
