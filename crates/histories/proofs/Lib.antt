@@ -6,3 +6,5 @@ pub mod Demands
 pub mod Waited
 pub mod OneOnly
 pub mod Computed
+pub mod Replayed
+pub mod Logged

@@ -6,3 +6,4 @@ pub mod Interrupts
 pub mod Waits
 pub mod Results
 pub mod Edges
+pub mod Replays
