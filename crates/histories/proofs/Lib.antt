@@ -8,3 +8,4 @@ pub mod OneOnly
 pub mod Computed
 pub mod Replayed
 pub mod Logged
+pub mod Replaying

@@ -7,3 +7,4 @@ pub mod Waits
 pub mod Results
 pub mod Edges
 pub mod Replays
+pub mod WorkedReplay

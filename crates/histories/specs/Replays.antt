@@ -1,6 +1,6 @@
 -- Replay of a trace is a history. 01, "Refusal numbers": "in replay, records before the refused one are accepted calls of the history"; "Trace
 -- refusals also tell the record's place, the offset of its kind byte". What a replay leaves is `replayed` of crate `player`, which the contract
--- of `player::replay` names.
+-- of `player::replay` names. The promise is `Replays`, at the end; above it, in order, what it speaks of.
 -- Assumes nothing.
 use Prim.Native.Nat.{ℕ, zero, suc, _+_, _*_, _<_, _≤_}
 use mathlib.Core.List.{List, [], _∷_, _++_, map}

@@ -8,6 +8,7 @@ ghost use Rattle.histories.specs.Refusals.{Refusals};
 ghost use Rattle.histories.specs.Replays.{Replays};
 ghost use Rattle.histories.specs.Results.{OneResult};
 ghost use Rattle.histories.specs.Waits.{Waits};
+ghost use Rattle.histories.specs.WorkedReplay.{WorkedReplay};
 
 // Which calls are refused, on every board, and with which number; a refused call changes nothing.
 pub fn demand_1()
@@ -21,7 +22,7 @@ pub fn demand_2()
 
 // Replay of a trace is a history.
 pub fn replay_is_history()
-    ensures { λ _. ⌜ Replays ⌝ }
+    ensures { λ _. ⌜ Replays × WorkedReplay ⌝ }
 {}
 
 // The history alone tells the scanline interrupt.
