@@ -8,3 +8,10 @@ pub fn say(text: &[u8]) {
 pub fn say_number(n: u64) {
     io::print_decimal(STDOUT_FILENO, n);
 }
+
+// The first n bytes of a text, where it has so many.
+pub fn say_first(text: &[u8], n: usize) {
+    if n <= text.len() {
+        io::write_all(STDOUT_FILENO, &text[..n]);
+    }
+}

@@ -1,7 +1,7 @@
 -- All of them.
 use Rattle.settles.specs.Every.{EveryContract}
 use Rattle.settles.proofs.LeafLaws.{memory, answers, registers, banks, scanline, split, state, cpu, ppu}
-use Rattle.settles.proofs.EntryLaws.{board, board-ppu, views, trace, calls, text, player}
+use Rattle.settles.proofs.EntryLaws.{board, board-ppu, views, trace, calls, text, player, transcript}
 use Rattle.settles.proofs.HandLaws.{by-hand}
 
 pub every-contract : EveryContract
@@ -22,5 +22,6 @@ every-contract = record {
   of-calls = calls;
   of-text = text;
   of-player = player;
+  of-transcript = transcript;
   by-hand = by-hand;
 }

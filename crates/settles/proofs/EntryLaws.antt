@@ -1,6 +1,6 @@
 -- Each contract of specs/Entries.antt, by the one law.
 use mathlib.Core.List.{[]}
-use Rattle.settles.specs.Entries.{Board, BoardPpu, Views, Trace, Calls, Text, Player}
+use Rattle.settles.specs.Entries.{Board, BoardPpu, Views, Trace, Calls, Text, Player, Transcript}
 use Rattle.settles.proofs.Law.{settled, both}
 
 pub board : Board
@@ -75,4 +75,10 @@ player = record {
   counted-answer = λ κ a r r' e e'. settled;
   chosen-at = λ κ a r r' e e'. settled;
   other-answer = λ κ a r r' e e'. settled;
+}
+
+pub transcript : Transcript
+transcript = record {
+  print = λ κ a r r' e e'. settled;
+  transcribe = λ κ a r r' e e'. settled;
 }

@@ -53,6 +53,8 @@ use Rattle.player.proofs.ppu_side.count_fetch.Reads as player-count-fetch
 use Rattle.player.proofs.ppu_side.counted_answer.Reads as player-counted-answer
 use Rattle.player.proofs.ppu_side.chosen_at.Reads as player-chosen-at
 use Rattle.player.proofs.ppu_side.other_answer.Reads as player-other-answer
+use Rattle.transcript.proofs.printed.print.Reads as transcript-print
+use Rattle.transcript.proofs.cartridge.transcribe.Reads as transcript-transcribe
 use Rattle.settles.specs.Settled.{Result, Settles, beside}
 
 pub record Board : Type 0 where
@@ -114,3 +116,7 @@ pub record Player : Type 0 where
   pub counted-answer : Result player-counted-answer.Learnt
   pub chosen-at : Result player-chosen-at.Learnt
   pub other-answer : Result player-other-answer.Learnt
+
+pub record Transcript : Type 0 where
+  pub print : Settles transcript-print.Learnt (λ κ a r e. sheet (now (e .0)) r)
+  pub transcribe : Settles transcript-transcribe.Learnt (λ κ a r e. sheet (now (e .0)) r)

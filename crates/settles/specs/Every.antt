@@ -1,7 +1,7 @@
 -- Every public function of every library, crate by crate. The programs' own functions print, and have no contract: docs/DECISIONS.md, "Forms".
 -- Assumes nothing.
 use Rattle.settles.specs.Leaves.{Memory, Answers, Registers, Banks, Scanline, Split, State, Cpu, Ppu}
-use Rattle.settles.specs.Entries.{Board, BoardPpu, Views, Trace, Calls, Text, Player}
+use Rattle.settles.specs.Entries.{Board, BoardPpu, Views, Trace, Calls, Text, Player, Transcript}
 use Rattle.settles.specs.ByHand.{ByHand}
 
 pub record EveryContract : Type 0 where
@@ -21,4 +21,5 @@ pub record EveryContract : Type 0 where
   pub of-calls : Calls
   pub of-text : Text
   pub of-player : Player
+  pub of-transcript : Transcript
   pub by-hand : ByHand
