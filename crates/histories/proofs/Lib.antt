@@ -6,3 +6,6 @@ pub mod Demands
 pub mod Waited
 pub mod OneOnly
 pub mod Computed
+pub mod Replayed
+pub mod Logged
+pub mod Replaying

@@ -32,11 +32,12 @@ pub record Takes (b : Board) (c : Made) (b' : Board) : Type 0 where
   pub left : b' ≡ leaves b c
 
 -- The calls cs, the newest first, were accepted one after the other from the load on, and left b: "each takes the state and the memories as the
--- call before it left them".
+-- call before it left them". `Played` (crate `lines`, specs/Promise.antt) is the chain: no calls leave `first l`; where cs leave b and `Takes b c b'`,
+-- the calls `c ∷ cs` leave b'.
 abbrev pub Reached : Load → List Made → Board → Type 0
 Reached l cs b = Played Board Made (first l) Takes cs b
 
--- Where the detector lies, and what it can tell of a call.
+-- Where the scanline detector lies in a board, and what it can tell of a call: demand 3 speaks of these alone (crate `lines`).
 abbrev pub view : Board → Detector
 view b = b .state .irq
 

@@ -6,3 +6,5 @@ pub mod Interrupts
 pub mod Waits
 pub mod Results
 pub mod Edges
+pub mod Replays
+pub mod WorkedReplay

@@ -5,8 +5,10 @@ ghost use Rattle.histories.specs.Accepted.{Along};
 ghost use Rattle.histories.specs.Edges.{Edges, ShutOut, CasesAreHistories};
 ghost use Rattle.histories.specs.Interrupts.{BoardDemand3, Asked};
 ghost use Rattle.histories.specs.Refusals.{Refusals};
+ghost use Rattle.histories.specs.Replays.{Replays};
 ghost use Rattle.histories.specs.Results.{OneResult};
 ghost use Rattle.histories.specs.Waits.{Waits};
+ghost use Rattle.histories.specs.WorkedReplay.{WorkedReplay};
 
 // Which calls are refused, on every board, and with which number; a refused call changes nothing.
 pub fn demand_1()
@@ -16,6 +18,11 @@ pub fn demand_1()
 // A history has one result: every answer, the page tables and the memory are the definitions'.
 pub fn demand_2()
     ensures { λ _. ⌜ OneResult ⌝ }
+{}
+
+// Replay of a trace is a history.
+pub fn replay_is_history()
+    ensures { λ _. ⌜ Replays × WorkedReplay ⌝ }
 {}
 
 // The history alone tells the scanline interrupt.

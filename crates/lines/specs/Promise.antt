@@ -1,7 +1,7 @@
 -- Demand 3: "The history alone tells the scanline interrupt." Stated of any machine that keeps a detector: S are its states (with the
 -- memories), C its calls, and `Takes s c s'` says that the call c is accepted in s and leaves s'; `first` is the state that load leaves,
 -- `view` where the detector lies, and `event` what it can tell of a call. In this crate the machine is the detector with its tile count;
--- above it, as a board is.
+-- in crate `histories` it is the whole board.
 -- Assumes nothing.
 use Prim.Native.Nat.{ℕ, _+_, _-_, _≤_, _<_}
 use mathlib.Core.Path.{_≡_}
@@ -21,7 +21,8 @@ unfoldable pub historyOf : {C : Type 0} → (C → Event) → List C → History
 historyOf event [] = []
 historyOf event (c ∷ cs) = event c ∷ historyOf event cs
 
--- the calls cs were accepted one after the other, from load on, and left s
+-- the calls cs, the newest first, were accepted one after the other, from load on, and left s: none left `first`; and where cs left s and c is
+-- taken from s to s', they and then c left s'
 pub data Played (S C : Type 0) (first : S) (Takes : S → C → S → Type 0) : List C → S → Type 0 where
   at-load : Played S C first Takes [] first
   taken : {cs : List C} {s s' : S} (c : C) → Played S C first Takes cs s → Takes s c s' → Played S C first Takes (c ∷ cs) s'
@@ -43,7 +44,7 @@ pub record Demand3 (S C : Type 0) (first : S) (Takes : S → C → S → Type 0)
       → {s : S} → Played S C first Takes (c ∷ (gs ++ hs)) s → interruptUp (view s) ≡ true
 
 -- Any machine has it that keeps two things: load leaves its detector as loaded, and each call that is accepted moves it by the call's event.
--- (A contract speaks of no types, so this is cited by way of its instances: the one below.)
+-- (A contract speaks of no types, so this is cited by way of its instances: the one below, and the board's, `BoardDemand3` of crate `histories`.)
 abbrev pub AnyMachine : Type 1
 AnyMachine = (S C : Type 0) (first : S) (Takes : S → C → S → Type 0) (view : S → Detector) (event : C → Event)
     → view first ≡ loaded → ((s s' : S) (c : C) → Takes s c s' → view s' ≡ step (view s) (event c)) → Demand3 S C first Takes view event

@@ -21,7 +21,7 @@ unfoldable pub idle : History → Bool
 idle [] = true
 idle (e ∷ h) = isClock e || (not (counts e) && idle h)
 
--- how many clocks the row of idle clocks has that the clocks of h end in
+-- how long the row of idle clocks is that stands at the end of h's clocks: 0 where the last clock was not idle
 unfoldable pub row : History → ℕ
 row [] = 0
 row (e ∷ h) = pick (isClock e) (pick (idle h) (row h + 1) 0) (row h)
@@ -38,7 +38,7 @@ unfoldable pub recent : History → List ℕ
 recent [] = []
 recent (e ∷ h) = pick (breaks e h) [] (pick (counts e) (address e ∷ recent h) (recent h))
 
--- how many of them, from the newest on, are at a
+-- how many addresses, from the newest on and before any other, are a: the run that a fetch at a would go on
 unfoldable pub alike : ℕ → List ℕ → ℕ
 alike a [] = 0
 alike a (x ∷ xs) = pick (eqb a x) (alike a xs + 1) 0

@@ -1,0 +1,40 @@
+-- 01, "Trace": the worked input, replayed over the cartridge that 01 gives the program `replay`, and a trace that is refused.
+-- Assumes nothing.
+use Prim.Native.Nat.{ℕ, zero, suc, _+_}
+use mathlib.Core.Bool.{false}
+use mathlib.Core.List.{List, [], _∷_, _++_}
+use mathlib.Core.Path.{_≡_}
+use lib.ListN.{replicate}
+use Rattle.memory.specs.Bytes.{Mem, memOf}
+use Rattle.answers.specs.declared.Answer.the-variants.{Nothing}
+use Rattle.answers.specs.declared.Refusal.the-variants.{Audio, Number}
+use Rattle.registers.specs.declared.Mirroring.the-variants.{Horizontal}
+use Rattle.board.specs.Loads.{loadCall}
+use Rattle.trace.specs.Examples.{worked}
+use Rattle.player.specs.declared.Ending.the-variants.{Done, Stopped}
+use Rattle.player.specs.Replay.{Left, replayed}
+
+-- n pages of 1,024 bytes, the first of bytes b, each next one of bytes one larger.
+unfoldable pub pages : ℕ → ℕ → List ℕ
+pages b zero = []
+pages b (suc n) = replicate 1024 b ++ pages (b + 1) n
+
+-- "PRG-ROM 32,768 (byte = offset / 1,024), CHR-ROM 8,192 (128 + offset / 1,024), PRG-RAM 8,192, RAMs zero, Horizontal"
+abbrev pub cartridge : Mem
+cartridge = memOf (pages 0 32) (pages 128 8) (replicate 8192 0) (replicate 2048 0) (replicate 1024 0)
+
+-- A trace replayed from load on, with a log of 14 bytes.
+abbrev pub replayOver : List ℕ → Left
+replayOver trace = replayed (loadCall cartridge false Horizontal .state) trace cartridge (replicate 14 0)
+
+pub record WorkedReplay : Type 0 where
+  pub loads : loadCall cartridge false Horizontal .answer ≡ Nothing
+  -- `end 6`
+  pub ending : replayOver worked .out .ending ≡ Done 6
+  -- `M 24`, `-`, `R 249`, `R 6`, `-`, `M 0`, each a letter and a value; the interrupt is down
+  pub log : replayOver worked .log ≡ 0x4D ∷ 24 ∷ 0x2D ∷ 0 ∷ 0x52 ∷ 249 ∷ 0x52 ∷ 6 ∷ 0x2D ∷ 0 ∷ 0x4D ∷ 0 ∷ 0 ∷ 0 ∷ []
+  -- a clock, then a read of $5010: refused by its number at its place, and the clock after it is not played
+  pub refused : replayOver (0 ∷ 1 ∷ 144 ∷ 160 ∷ 1 ∷ 0 ∷ []) .out .ending ≡ Stopped 1 Audio
+  pub not-played : replayOver (0 ∷ 1 ∷ 144 ∷ 160 ∷ 1 ∷ 0 ∷ []) .log ≡ 0x2D ∷ 0 ∷ 0 ∷ 0 ∷ 0 ∷ 0 ∷ 0 ∷ 0 ∷ 0 ∷ 0 ∷ 0 ∷ 0 ∷ 0 ∷ 0 ∷ []
+  -- a clock, then a read whose address is cut
+  pub unreadable : replayOver (0 ∷ 1 ∷ 144 ∷ []) .out .ending ≡ Stopped 1 Number

@@ -1,0 +1,122 @@
+-- The contracts of the entry points and of what is public beside them, function by function, crate by crate. A refusal is a result as any
+-- other. A view's contract settles its bytes; that they are a part of the lent buffer is the signature's lifetime.
+-- Assumes nothing.
+use mathlib.Core.List.{[]}
+use denote.Ref.{now}
+use Rattle.memory.specs.Bytes.{memOf}
+use Rattle.board.specs.Outcomes.{afterOf}
+use Rattle.player.specs.Replay.{leftOf}
+use Rattle.text.specs.Sheet.{sheet}
+use Rattle.board.proofs.clocks.clock.Reads as board-clock
+use Rattle.board.proofs.cpu_side.cpu_read.Reads as board-cpu-read
+use Rattle.board.proofs.cpu_side.cpu_peek.Reads as board-cpu-peek
+use Rattle.board.proofs.cpu_side.cpu_write.Reads as board-cpu-write
+use Rattle.board.proofs.refuse.Reads as board-refuse
+use Rattle.board.proofs.loads.load.Reads as board-load
+use Rattle.board.proofs.ppu_registers.status_told.Reads as board-status-told
+use Rattle.board.proofs.ppu_registers.detector_told.Reads as board-detector-told
+use Rattle.board.proofs.ppu_registers.ppu_register.Reads as board-ppu-register
+use Rattle.board.proofs.whole.reset.Reads as board-reset
+use Rattle.board.proofs.whole.mirroring.Reads as board-mirroring
+use Rattle.board.proofs.whole.interrupt_up.Reads as board-interrupt-up
+use Rattle.board_ppu.proofs.calls.set_changed.Reads as board-ppu-set-changed
+use Rattle.board_ppu.proofs.calls.ppu_fetch.Reads as board-ppu-ppu-fetch
+use Rattle.board_ppu.proofs.pages.chr_word_at.Reads as board-ppu-chr-word-at
+use Rattle.board_ppu.proofs.pages.page_at.Reads as board-ppu-page-at
+use Rattle.board_ppu.proofs.peeks.ppu_peek.Reads as board-ppu-ppu-peek
+use Rattle.board_ppu.proofs.peeks.sprite_peek.Reads as board-ppu-sprite-peek
+use Rattle.board_ppu.proofs.stores.ppu_write.Reads as board-ppu-ppu-write
+use Rattle.views.proofs.cpu_view.Reads as views-cpu-view
+use Rattle.views.proofs.ppu_view.Reads as views-ppu-view
+use Rattle.trace.proofs.kind_of.Reads as trace-kind-of
+use Rattle.trace.proofs.too_long.Reads as trace-too-long
+use Rattle.trace.proofs.numbers.address_at.Reads as trace-address-at
+use Rattle.trace.proofs.numbers.value_at.Reads as trace-value-at
+use Rattle.trace.proofs.records.record_at.Reads as trace-record-at
+use Rattle.calls.proofs.call_on.Reads as calls-call-on
+use Rattle.text.proofs.lines.logged_line.Reads as text-logged-line
+use Rattle.text.proofs.lines.refused_line.Reads as text-refused-line
+use Rattle.text.proofs.lines.unreadable_line.Reads as text-unreadable-line
+use Rattle.text.proofs.lines.too_long_line.Reads as text-too-long-line
+use Rattle.text.proofs.lines.end_line.Reads as text-end-line
+use Rattle.text.proofs.words.put.Reads as text-put
+use Rattle.text.proofs.words.decimal.Reads as text-decimal
+use Rattle.text.proofs.words.number.Reads as text-number
+use Rattle.text.proofs.words.letter.Reads as text-letter
+use Rattle.player.proofs.cpu_side.read.Reads as player-read
+use Rattle.player.proofs.cpu_side.store.Reads as player-store
+use Rattle.player.proofs.cpu_side.exram_word.Reads as player-exram-word
+use Rattle.player.proofs.replay.Reads as player-replay
+use Rattle.player.proofs.logs.log_record.Reads as player-log-record
+use Rattle.player.proofs.plays.play.Reads as player-play
+use Rattle.player.proofs.ppu_side.count_fetch.Reads as player-count-fetch
+use Rattle.player.proofs.ppu_side.counted_answer.Reads as player-counted-answer
+use Rattle.player.proofs.ppu_side.chosen_at.Reads as player-chosen-at
+use Rattle.player.proofs.ppu_side.other_answer.Reads as player-other-answer
+use Rattle.transcript.proofs.printed.print.Reads as transcript-print
+use Rattle.transcript.proofs.cartridge.transcribe.Reads as transcript-transcribe
+use Rattle.settles.specs.Settled.{Result, Settles, beside}
+
+pub record Board : Type 0 where
+  pub clock : Result board-clock.Learnt
+  pub cpu-read : Result board-cpu-read.Learnt
+  pub cpu-peek : Result board-cpu-peek.Learnt
+  pub cpu-write : Settles board-cpu-write.Learnt (λ κ a r e. afterOf r (memOf (now (a .1 .0)) (now (e .1 .1 .0)) (now (e .1 .1 .1 .0)) (now (e .1 .1 .1 .1 .0)) (now (e .1 .1 .1 .1 .1 .0))))
+  pub refuse : Result board-refuse.Learnt
+  pub load : Result board-load.Learnt
+  pub status-told : Result board-status-told.Learnt
+  pub detector-told : Result board-detector-told.Learnt
+  pub ppu-register : Result board-ppu-register.Learnt
+  pub reset : Result board-reset.Learnt
+  pub mirroring : Result board-mirroring.Learnt
+  pub interrupt-up : Result board-interrupt-up.Learnt
+
+pub record BoardPpu : Type 0 where
+  pub set-changed : Result board-ppu-set-changed.Learnt
+  pub ppu-fetch : Result board-ppu-ppu-fetch.Learnt
+  pub chr-word-at : Result board-ppu-chr-word-at.Learnt
+  pub page-at : Result board-ppu-page-at.Learnt
+  pub ppu-peek : Result board-ppu-ppu-peek.Learnt
+  pub sprite-peek : Result board-ppu-sprite-peek.Learnt
+  pub ppu-write : Settles board-ppu-ppu-write.Learnt (λ κ a r e. afterOf r (memOf (now (a .1 .0)) (now (e .1 .1 .0)) (now (e .1 .1 .1 .0)) (now (e .1 .1 .1 .1 .0)) (now (e .1 .1 .1 .1 .1 .0))))
+
+pub record Views : Type 0 where
+  pub cpu-view : Settles views-cpu-view.Learnt (λ κ a r e. now r)
+  pub ppu-view : Settles views-ppu-view.Learnt (λ κ a r e. now r)
+
+pub record Trace : Type 0 where
+  pub kind-of : Result trace-kind-of.Learnt
+  pub too-long : Result trace-too-long.Learnt
+  pub address-at : Result trace-address-at.Learnt
+  pub value-at : Result trace-value-at.Learnt
+  pub record-at : Result trace-record-at.Learnt
+
+pub record Calls : Type 0 where
+  pub call-on : Settles calls-call-on.Learnt (λ κ a r e. afterOf r (memOf (now (a .1 .0)) (now (e .1 .1 .0)) (now (e .1 .1 .1 .0)) (now (e .1 .1 .1 .1 .0)) (now (e .1 .1 .1 .1 .1 .0))))
+
+pub record Text : Type 0 where
+  pub logged-line : Settles text-logged-line.Learnt (λ κ a r e. sheet (now (e .0)) r)
+  pub refused-line : Settles text-refused-line.Learnt (λ κ a r e. sheet (now (e .0)) r)
+  pub unreadable-line : Settles text-unreadable-line.Learnt (λ κ a r e. sheet (now (e .0)) r)
+  pub too-long-line : Settles text-too-long-line.Learnt (λ κ a r e. sheet (now (e .0)) r)
+  pub end-line : Settles text-end-line.Learnt (λ κ a r e. sheet (now (e .0)) r)
+  pub put : Settles text-put.Learnt (λ κ a r e. sheet (now (e .0)) r)
+  pub decimal : Settles text-decimal.Learnt (λ κ a r e. sheet (now (e .0)) r)
+  pub number : Settles text-number.Learnt (λ κ a r e. sheet (now (e .0)) r)
+  pub letter : Settles text-letter.Learnt (λ κ a r e. sheet (now (e .0)) r)
+
+pub record Player : Type 0 where
+  pub read : Result player-read.Learnt
+  pub store : Settles player-store.Learnt (λ κ a r e. memOf [] (now (e .0)) (now (e .1 .0)) (now (e .1 .1 .0)) (now (e .1 .1 .1 .0)))
+  pub exram-word : Result player-exram-word.Learnt
+  pub replay : Settles player-replay.Learnt (λ κ a r e. leftOf r (memOf (now (a .1 .1 .0)) (now (e .1 .1 .1 .0)) (now (e .1 .1 .1 .1 .0)) (now (e .1 .1 .1 .1 .1 .0)) (now (e .1 .1 .1 .1 .1 .1 .0))) (now (e .1 .1 .1 .1 .1 .1 .1 .0)))
+  pub log-record : Settles player-log-record.Learnt (λ κ a r e. now (e .0))
+  pub play : Settles player-play.Learnt (λ κ a r e. leftOf r (memOf (now (a .1 .1 .0)) (now (e .1 .1 .1 .0)) (now (e .1 .1 .1 .1 .0)) (now (e .1 .1 .1 .1 .1 .0)) (now (e .1 .1 .1 .1 .1 .1 .0))) (now (e .1 .1 .1 .1 .1 .1 .1 .0)))
+  pub count-fetch : Settles player-count-fetch.Learnt (λ κ a r e. beside (r .irq) (beside (r .ppu) (r .vsplit)))
+  pub counted-answer : Result player-counted-answer.Learnt
+  pub chosen-at : Result player-chosen-at.Learnt
+  pub other-answer : Result player-other-answer.Learnt
+
+pub record Transcript : Type 0 where
+  pub print : Settles transcript-print.Learnt (λ κ a r e. sheet (now (e .0)) r)
+  pub transcribe : Settles transcript-transcribe.Learnt (λ κ a r e. sheet (now (e .0)) r)
