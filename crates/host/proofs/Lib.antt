@@ -1,1 +1,3 @@
 pub mod HostLaws
+pub mod CopyLaws
+pub mod EntryLaws

@@ -9,6 +9,9 @@ use scanline::Detector;
 // Words that are no state: `!` and 5.
 pub const NO_STATE: u32 = 8453;
 
+// The same of a page's entry.
+pub const NO_ENTRY: u32 = 2162693;
+
 // The letter's code times 256, and the value.
 pub fn plain(answer: Answer) -> u32
     ensures { λ r. ⌜ r ≡ toldPlain answer ⌝ }

@@ -29,3 +29,8 @@ map-next f l out i d x m h e =
 
 pub map-last : {A B : Type 0} (f : A → B) (l : List A) (out : List B) (i : ℕ) → Mapped f l out i → length l ≤ i → out ≡ map f l
 map-last f l out i m h = sym (take-all i out (rw (m .even) h)) ∙ (m .so-far ∙ ap (map f) (take-all i l h))
+
+-- A copy is a map that changes nothing.
+pub map-same : {A : Type 0} (l : List A) → map (λ (x : A). x) l ≡ l
+map-same [] = refl
+map-same (y ∷ l) = ap (λ r. y ∷ r) (map-same l)
