@@ -1,0 +1,5 @@
+//! Both boards over the same cartridge, and what is compared between them.
+
+pub mod breaks;
+pub mod cartridges;
+pub mod pair;
