@@ -3,3 +3,4 @@
 pub mod breaks;
 pub mod cartridges;
 pub mod pair;
+pub mod speed;

@@ -84,6 +84,18 @@ pub fn load(c: Cartridge) -> Result<Option<Pair>, String> {
 }
 
 impl Pair {
+    /// Sets both boards near the counters' limits: refusal 7 is then some fetches away.
+    pub fn near_limits(&mut self, random: &mut oracle::generate::random::Random) {
+        let tiles = 4_294_967_293 - random.below(60) as u32;
+        let line = 65_279 - random.below(6) as u16;
+        self.state.wide[5] = tiles;
+        self.rust.exrom.ppu_status.tile_number = tiles;
+        self.state.halves[3] = line;
+        self.rust.exrom.ppu_status.scanline = line;
+        self.state.bytes[8] = 1;
+        self.rust.exrom.irq_state.in_frame = true;
+    }
+
     /// A record's call on the port.
     pub fn ours(&mut self, record: Record) -> mmc5::Told {
         let mut m = self.buffers.lent();
@@ -163,8 +175,6 @@ impl Pair {
 
     /// Both page tables, entry by entry, and the bytes that each page shows.
     pub fn tables(&mut self) -> Result<(), String> {
-        let c = self.rust.cartridge;
-        let _ = c;
         for page in 0..64 {
             let addr = (page * 1_024) as u16;
             let theirs = self.entry(self.rust.memory.prg_pages()[page]);

@@ -41,6 +41,9 @@ fn trace(random: &mut Random, seen: &mut Seen) -> Result<(), String> {
     let Some(mut pair) = pair::load(cartridges::good(random))? else {
         return Err("a good cartridge was refused".into());
     };
+    if random.once_in(4) {
+        pair.near_limits(random);
+    }
     let kind = random.pick(&["play", "play", "wild", "wild", "damaged"]);
     let records = 1 + random.below(3_000);
     let bytes = generate::trace(kind, random.next(), records).expect("a kind");
