@@ -1,11 +1,16 @@
 -- A loop that maps one element of a list after another into an array: so far, and at the end.
 use Prim.Native.Nat.{ℕ, zero, suc, _+_, _<_, _≤_}
+use mathlib.Core.Bool.{Bool, _&&_}
 use mathlib.Core.List.{List, [], _∷_, _++_, map}
 use mathlib.Core.Path.{_≡_, refl, sym, ap, _∙_}
 use native.Mathlib.Numerals.{add-one}
 use native.Mathlib.Omega.{arith}
-use lib.ListN.{length, take, getD, set, length-set}
+use lib.ListN.{length, take, getD, set, length-set, length-map, List·getD-map}
 use lib.Seq.{take-suc, take-all, take-suc-set}
+use Rattle.memory.specs.declared.PageWord.{PageWord}
+use Rattle.memory.specs.Tables.{all}
+use Rattle.memory.specs.Words.{word}
+use Rattle.memory.proofs.TableLaws.{Tested, test-next, test-last}
 
 pub record Mapped {A B : Type 0} (f : A → B) (l : List A) (out : List B) (i : ℕ) : Type 0 where
   pub few : i ≤ length l
@@ -34,3 +39,12 @@ map-last f l out i m h = sym (take-all i out (rw (m .even) h)) ∙ (m .so-far �
 pub map-same : {A : Type 0} (l : List A) → map (λ (x : A). x) l ≡ l
 map-same [] = refl
 map-same (y ∷ l) = ap (λ r. y ∷ r) (map-same l)
+
+-- A loop that tests the page words of a table, lent as numbers.
+pub numbers-next : (f : PageWord → Bool) (l : List ℕ) (ok : Bool) (i n : ℕ) (b : Bool)
+    → Tested f (map word l) ok i → i < n → length l ≡ n → b ≡ f (word (getD l i 0)) → Tested f (map word l) (ok && b) (i + 1)
+numbers-next f l ok i n b t h e eb =
+    test-next f (map word l) ok i (word 0) b t (rw (length-map l word) (rw e h)) (eb ∙ ap f (sym (List·getD-map word l i 0)))
+
+pub numbers-last : (f : PageWord → Bool) (l : List ℕ) (ok : Bool) (i n : ℕ) → Tested f (map word l) ok i → n ≤ i → length l ≡ n → ok ≡ all f (map word l)
+numbers-last f l ok i n t h e = test-last f (map word l) ok i t (rw (length-map l word) (rw e h))
