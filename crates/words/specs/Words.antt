@@ -52,13 +52,14 @@ numberOfMirroring SingleScreenB = 3
 numberOfMirroring FourScreen = 4
 
 -- Words that are a state: the fifteen flags are 0 or 1 and the mirroring is one of five. Every other number has a meaning, in range or not.
-abbrev pub good : List ℕ → Bool
-good b =
-    conj (
+abbrev pub flagTests : List ℕ → List Bool
+flagTests b =
     leb (getD b 0 0) 1 ∷ leb (getD b 1 0) 1 ∷ leb (getD b 2 0) 1 ∷ leb (getD b 3 0) 1 ∷ leb (getD b 4 0) 1 ∷ leb (getD b 5 0) 1
     ∷ leb (getD b 6 0) 1 ∷ leb (getD b 7 0) 1 ∷ leb (getD b 8 0) 1 ∷ leb (getD b 9 0) 1 ∷ leb (getD b 10 0) 1 ∷ leb (getD b 11 0) 1
     ∷ leb (getD b 12 0) 1 ∷ leb (getD b 13 0) 1 ∷ leb (getD b 14 0) 1 ∷ leb (getD b 15 0) 4 ∷ []
-    )
+
+abbrev pub good : List ℕ → Bool
+good b = conj (flagTests b)
 
 abbrev pub lengthsOf : List ℕ → List ℕ → Lengths
 lengthsOf b w =
