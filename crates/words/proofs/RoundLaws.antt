@@ -55,10 +55,22 @@ bytes-back w e g =
     let b = w .bytes in
     let at : (i : ℕ) → getD (flagTests b) i true ≡ true = λ (i : ℕ). conj-at (flagTests b) i g in
     rw (
-      flag-back (getD b 0 0) (at 0), flag-back (getD b 1 0) (at 1), flag-back (getD b 2 0) (at 2), flag-back (getD b 3 0) (at 3), flag-back (getD b 4 0) (at 4),
-      flag-back (getD b 5 0) (at 5), flag-back (getD b 6 0) (at 6), flag-back (getD b 7 0) (at 7), flag-back (getD b 8 0) (at 8), flag-back (getD b 9 0) (at 9),
-      flag-back (getD b 10 0) (at 10), flag-back (getD b 11 0) (at 11), flag-back (getD b 12 0) (at 12), flag-back (getD b 13 0) (at 13), flag-back (getD b 14 0) (at 14),
-      mirroring-back (getD b 15 0) (at 15)
+      flag-back (getD b 0 0) (at 0),
+      flag-back (getD b 1 0) (at 1),
+      flag-back (getD b 2 0) (at 2),
+      flag-back (getD b 3 0) (at 3),
+      flag-back (getD b 4 0) (at 4),
+      flag-back (getD b 5 0) (at 5),
+      flag-back (getD b 6 0) (at 6),
+      flag-back (getD b 7 0) (at 7),
+      flag-back (getD b 8 0) (at 8),
+      flag-back (getD b 9 0) (at 9),
+      flag-back (getD b 10 0) (at 10),
+      flag-back (getD b 11 0) (at 11),
+      flag-back (getD b 12 0) (at 12),
+      flag-back (getD b 13 0) (at 13),
+      flag-back (getD b 14 0) (at 14),
+      mirroring-back (getD b 15 0) (at 15),
     ) (listed b 33 e)
 
 pub halves-back : (w : Words) → length (w .halves) ≡ 5 → halvesOf (stateOf w) ≡ w .halves
