@@ -1,3 +1,4 @@
 pub mod HostLaws
 pub mod CopyLaws
 pub mod EntryLaws
+pub mod FastLaws
