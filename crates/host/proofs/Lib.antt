@@ -1,0 +1,4 @@
+pub mod HostLaws
+pub mod CopyLaws
+pub mod EntryLaws
+pub mod FastLaws

@@ -1,0 +1,59 @@
+-- A call over lent words: the board's call on the state that they stand for, and the words that stand for the state after it. Words that are
+-- no state (a flag that is neither 0 nor 1, a mirroring above 4) are refused with 5 before all else, as a state not loaded is, and stay.
+use Prim.Native.Nat.{ℕ}
+use mathlib.Core.Bool.{not}
+use Rattle.memory.specs.Bytes.{Mem}
+use Rattle.memory.specs.Words.{pick}
+use Rattle.answers.specs.declared.Answer.{Answer}
+use Rattle.answers.specs.declared.Answer.the-variants.{Refused}
+use Rattle.answers.specs.declared.Refusal.the-variants.{State as StateBroken}
+use Rattle.state.specs.declared.State.{State}
+use Rattle.board.specs.declared.Interrupt.{Interrupt}
+use Rattle.board.specs.declared.Outcome.{Outcome}
+use Rattle.board.specs.declared.Told.{Told}
+use Rattle.board.specs.Outcomes.{After}
+use Rattle.words.specs.Words.{Words, good, stateOf, wordsOf}
+use Rattle.host.specs.Told.{toldPlain, toldWith, mirroringTold, interruptTold}
+
+-- The number that words which are no state are answered with.
+abbrev pub noState : ℕ
+noState = toldPlain (Refused StateBroken)
+
+-- What a call leaves: its number and the words.
+pub record Left : Type 0 where
+  pub number : ℕ
+  pub words : Words
+
+abbrev pub leftOf : ℕ → Words → Left
+leftOf n w = record { number = n; words = w }
+
+abbrev pub leaving : Outcome → Left
+leaving o = leftOf (toldWith (o .answer) (o .state .irq)) (wordsOf (o .state))
+
+unfoldable pub onWords : Words → (State → Outcome) → Left
+onWords w f = pick (not (good (w .bytes))) (leftOf noState w) (leaving (f (stateOf w)))
+
+-- Of a call that writes memory, the buffers too.
+pub record Hosted : Type 0 where
+  pub number : ℕ
+  pub words : Words
+  pub mem : Mem
+
+abbrev pub hostedOf : ℕ → Words → Mem → Hosted
+hostedOf n w m = record { number = n; words = w; mem = m }
+
+abbrev pub hosting : After → Hosted
+hosting x = hostedOf (toldWith (x .out .answer) (x .out .state .irq)) (wordsOf (x .out .state)) (x .mem)
+
+unfoldable pub onMemory : Words → Mem → (State → After) → Hosted
+onMemory w m f = pick (not (good (w .bytes))) (hostedOf noState w m) (hosting (f (stateOf w)))
+
+-- Calls that only answer.
+unfoldable pub peekOn : Words → (State → Answer) → ℕ
+peekOn w f = pick (not (good (w .bytes))) noState (toldPlain (f (stateOf w)))
+
+unfoldable pub mirroringOn : Words → (State → Told) → ℕ
+mirroringOn w f = pick (not (good (w .bytes))) noState (mirroringTold (f (stateOf w)))
+
+unfoldable pub interruptOn : Words → (State → Interrupt) → ℕ
+interruptOn w f = pick (not (good (w .bytes))) noState (interruptTold (f (stateOf w)))

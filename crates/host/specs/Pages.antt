@@ -1,0 +1,60 @@
+-- What the page tables hold, for the host: an entry as one number, and a page's bytes copied out.
+use Prim.Native.Nat.{ℕ, _+_, _*_, _%_}
+use mathlib.Core.Bool.{Bool, not, _&&_}
+use mathlib.Core.List.{List}
+use lib.Dec.{eqb}
+use lib.ListN.{length}
+use Rattle.memory.specs.declared.Page.{Page}
+use Rattle.memory.specs.declared.Src.{Src}
+use Rattle.memory.specs.declared.Src.the-variants.{Blank, PrgRom, PrgRam, Chr, CiRam, ExRam}
+use Rattle.memory.specs.Words.{pick, pageOf}
+use Rattle.state.specs.declared.State.{State}
+use Rattle.state.specs.Ranges.{inRange}
+use Rattle.cpu.specs.Writes.{prgWordAt}
+use Rattle.board_ppu.specs.Peeks.{chrWordAt}
+use Rattle.words.specs.Words.{Words, good, stateOf}
+
+-- Blank, or a buffer.
+abbrev pub sourceNumber : Src → ℕ
+sourceNumber Blank = 0
+sourceNumber PrgRom = 1
+sourceNumber PrgRam = 2
+sourceNumber Chr = 3
+sourceNumber CiRam = 4
+sourceNumber ExRam = 5
+
+-- The page's number in its buffer, which has at most 1,024 pages, with 32,768 more where it takes writes.
+abbrev pub withinBuffer : ℕ → Bool → ℕ
+withinBuffer i w = pick w (i % 1024 + 32768) (i % 1024)
+
+-- The buffer's number before it.
+abbrev pub entryNumber : Page → ℕ
+entryNumber p = sourceNumber (p .src) * 65536 + withinBuffer (p .index) (p .writable)
+
+-- No buffer has this number: `!`, and refusal 5.
+abbrev pub noEntry : ℕ
+noEntry = 0x21 * 65536 + 5
+
+unfoldable pub prgEntry : State → ℕ → ℕ
+prgEntry s a = pick (not (inRange s)) noEntry (entryNumber (pageOf (prgWordAt (s .«prg_pages») a)))
+
+unfoldable pub chrEntry : State → ℕ → ℕ
+chrEntry s a = pick (not (inRange s)) noEntry (entryNumber (pageOf (chrWordAt (s .«chr_pages») a)))
+
+unfoldable pub entryOn : Words → (State → ℕ) → ℕ
+entryOn w f = pick (not (good (w .bytes))) noEntry (f (stateOf w))
+
+-- A copy: how many bytes, and what they are copied to.
+pub record Copied : Type 0 where
+  pub count : ℕ
+  pub bytes : List ℕ
+
+abbrev pub copiedOf : ℕ → List ℕ → Copied
+copiedOf n l = record { count = n; bytes = l }
+
+-- A whole page is copied, where there is room for just so much; the empty part leaves what was there.
+unfoldable pub copied : List ℕ → List ℕ → Copied
+copied part out = pick (not (eqb (length part) 1024 && eqb (length out) 1024)) (copiedOf 0 out) (copiedOf 1024 part)
+
+unfoldable pub copyOn : Words → (State → List ℕ) → List ℕ → Copied
+copyOn w f out = pick (not (good (w .bytes))) (copiedOf 0 out) (copied (f (stateOf w)) out)

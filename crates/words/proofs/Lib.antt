@@ -1,0 +1,5 @@
+pub mod MappedLaws
+pub mod RangeLaws
+pub mod RoundLaws
+pub mod GateLaws
+pub mod PutLaws

@@ -1,0 +1,83 @@
+-- Words that are a state are the words of that state: what is read from them, put back, leaves them as they are.
+use Prim.Native.Nat.{ℕ, zero, suc, _+_, _≤_}
+use mathlib.Core.Bool.{Bool, true, false}
+use mathlib.Core.List.{List, [], _∷_, map}
+use mathlib.Core.Path.{_≡_, refl, sym, ap, _∙_}
+use native.Mathlib.Nat.{add-zero}
+use native.Mathlib.Omega.{arith}
+use borrow.Author.Tests.{leb-true}
+use lib.Dec.{eqb, leb}
+use lib.ListN.{length, getD}
+use Rattle.memory.specs.Words.{flag, word}
+use Rattle.memory.proofs.Tests.{conj-at}
+use Rattle.words.specs.Words.{Words, flagTests, good, mirroringNumbered, numberOfMirroring, pagesOf, numbersOf, numberIn, stateOf, wordsOf, bytesOf, halvesOf, wideOf}
+
+-- A list, element by element.
+abbrev upFrom : ℕ → ℕ → (ℕ → ℕ) → List ℕ
+upFrom k zero f = []
+upFrom k (suc n) f = f k ∷ upFrom (k + 1) n f
+
+spelled : (l : List ℕ) (k : ℕ) (f : ℕ → ℕ) → ((i : ℕ) → f (k + i) ≡ getD l i 0) → upFrom k (length l) f ≡ l
+spelled [] k f h = refl
+spelled (x ∷ l) k f h =
+    let first : f k ≡ x = ap f (sym (add-zero k)) ∙ h 0 in
+    let rest : upFrom (k + 1) (length l) f ≡ l = spelled l (k + 1) f (λ (i : ℕ). ap f (omega arith) ∙ h (suc i)) in
+    ap (λ (y : ℕ). y ∷ upFrom (k + 1) (length l) f) first ∙ ap (λ (r : List ℕ). x ∷ r) rest
+
+listed : (l : List ℕ) (n : ℕ) → length l ≡ n → upFrom 0 n (λ (i : ℕ). getD l i 0) ≡ l
+listed l n e = ap (λ (m : ℕ). upFrom 0 m (λ (i : ℕ). getD l i 0)) (sym e) ∙ spelled l 0 (λ (i : ℕ). getD l i 0) (λ (i : ℕ). ap (λ (j : ℕ). getD l j 0) (omega arith))
+
+flag-small : (n : ℕ) → n ≤ 1 → flag (eqb n 1) ≡ n
+flag-small zero h = refl
+flag-small (suc zero) h = refl
+flag-small (suc (suc n)) h = absurd (omega arith)
+
+pub flag-back : (n : ℕ) → leb n 1 ≡ true → flag (eqb n 1) ≡ n
+flag-back n e = flag-small n (leb-true n 1 e)
+
+mirroring-small : (n : ℕ) → n ≤ 4 → numberOfMirroring (mirroringNumbered n) ≡ n
+mirroring-small zero h = refl
+mirroring-small (suc zero) h = refl
+mirroring-small (suc (suc zero)) h = refl
+mirroring-small (suc (suc (suc zero))) h = refl
+mirroring-small (suc (suc (suc (suc zero)))) h = refl
+mirroring-small (suc (suc (suc (suc (suc n))))) h = absurd (omega arith)
+
+pub mirroring-back : (n : ℕ) → leb n 4 ≡ true → numberOfMirroring (mirroringNumbered n) ≡ n
+mirroring-back n e = mirroring-small n (leb-true n 4 e)
+
+pub numbers-back : (l : List ℕ) → numbersOf (pagesOf l) ≡ l
+numbers-back [] = refl
+numbers-back (x ∷ l) = ap (λ (r : List ℕ). x ∷ r) (numbers-back l)
+
+pub bytes-back : (w : Words) → length (w .bytes) ≡ 33 → good (w .bytes) ≡ true → bytesOf (stateOf w) ≡ w .bytes
+bytes-back w e g =
+    let b = w .bytes in
+    let at : (i : ℕ) → getD (flagTests b) i true ≡ true = λ (i : ℕ). conj-at (flagTests b) i g in
+    rw (
+      flag-back (getD b 0 0) (at 0),
+      flag-back (getD b 1 0) (at 1),
+      flag-back (getD b 2 0) (at 2),
+      flag-back (getD b 3 0) (at 3),
+      flag-back (getD b 4 0) (at 4),
+      flag-back (getD b 5 0) (at 5),
+      flag-back (getD b 6 0) (at 6),
+      flag-back (getD b 7 0) (at 7),
+      flag-back (getD b 8 0) (at 8),
+      flag-back (getD b 9 0) (at 9),
+      flag-back (getD b 10 0) (at 10),
+      flag-back (getD b 11 0) (at 11),
+      flag-back (getD b 12 0) (at 12),
+      flag-back (getD b 13 0) (at 13),
+      flag-back (getD b 14 0) (at 14),
+      mirroring-back (getD b 15 0) (at 15),
+    ) (listed b 33 e)
+
+pub halves-back : (w : Words) → length (w .halves) ≡ 5 → halvesOf (stateOf w) ≡ w .halves
+halves-back w e = listed (w .halves) 5 e
+
+pub wide-back : (w : Words) → length (w .wide) ≡ 6 → wideOf (stateOf w) ≡ w .wide
+wide-back w e = listed (w .wide) 6 e
+
+pub words-back : (w : Words) → length (w .bytes) ≡ 33 → length (w .halves) ≡ 5 → length (w .wide) ≡ 6 → good (w .bytes) ≡ true → wordsOf (stateOf w) ≡ w
+words-back w eb eh ew g = rw (bytes-back w eb g, halves-back w eh, wide-back w ew, numbers-back (w .prgPages), numbers-back (w .chrPages))

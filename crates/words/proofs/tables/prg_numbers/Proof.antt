@@ -1,0 +1,58 @@
+-- Each element in turn: the loop keeps `Mapped`.
+use Prim.Native.Nat.{_-_}
+use mathlib.Core.Path.{refl}
+use borrow.Author.Needs.{needs}
+use Rattle.memory.specs.Words.{word}
+use Rattle.words.specs.Words.{numberIn}
+use Rattle.words.proofs.MappedLaws.{Mapped, map-first, map-next, map-last}
+use Rattle.words.proofs.tables.prg_numbers.Statement.{statement}
+use Rattle.words.proofs.tables.prg_numbers.Tie as tie
+
+abbrev Inv-loop : tie.InvT-loop
+Inv-loop pages numbers₀ i₀ numbers i = Mapped numberIn pages numbers i
+
+abbrev μ-loop : tie.MeasureT-loop
+μ-loop pages numbers₀ i₀ numbers i = 64 - i
+
+loop-holds : tie.Need-loop-holds Inv-loop μ-loop
+loop-holds c = map-first _ _ _ (search needs)
+
+mul-w : tie.Need-mul-w Inv-loop μ-loop
+mul-w c = search needs
+
+array-copy-out-w : tie.Need-array-copy-out-w Inv-loop μ-loop
+array-copy-out-w c = search needs
+
+mul-numbers : tie.Need-mul-numbers Inv-loop μ-loop
+mul-numbers c = search needs
+
+array-write-numbers : tie.Need-array-write-numbers Inv-loop μ-loop
+array-write-numbers c = search needs
+
+add-i : tie.Need-add-i Inv-loop μ-loop
+add-i c = search needs
+
+loop-less : tie.Need-loop-less Inv-loop μ-loop
+loop-less c = search needs
+
+loop-again : tie.Need-loop-again Inv-loop μ-loop
+loop-again c = map-next _ _ _ _ (word 0) _ (c .before .before .loop .inv) (search needs) refl
+
+returns : tie.Need-returns Inv-loop μ-loop
+returns c = map-last _ _ _ _ (c .before .loop .inv) (search needs)
+
+pub prg-numbers-spec : {M : Type 1} → statement M
+prg-numbers-spec =
+    tie.close
+    (tie.spec
+    Inv-loop
+    μ-loop
+    loop-holds
+    mul-w
+    array-copy-out-w
+    mul-numbers
+    array-write-numbers
+    add-i
+    loop-less
+    loop-again
+    returns)

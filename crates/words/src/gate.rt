@@ -1,0 +1,57 @@
+// Refusals 4 and 5, asked of the lent words where they lie.
+ghost use mathlib.Core.Path.{_≡_};
+ghost use Rattle.state.specs.Gate.{gateOf, sameLengths};
+ghost use Rattle.words.specs.Words.{stateOf, wordsAt};
+use crate::ranges;
+use crate::read;
+use answers::Refusal;
+use state::Lengths;
+use state::gate::Gate;
+
+fn same_lengths(z: Lengths, prg: usize, chr: usize, ram: usize, ciram: usize, exram: usize) -> bool
+    ensures { λ r. ⌜ r ≡ sameLengths z prg chr ram ciram exram ⌝ }
+{
+    (z.prg as usize == prg)
+        & ((z.chr as usize == chr)
+            & ((z.ram as usize == ram)
+                & ((z.ciram as usize == ciram) & (z.exram as usize == exram))))
+}
+
+pub fn passed(
+    bytes: &[u8; 33],
+    halves: &[u16; 5],
+    wide: &[u32; 6],
+    prg_banks: &[u8; 5],
+    chr_banks: &[u8; 16],
+    prg_pages: &[u32; 64],
+    chr_pages: &[u32; 16],
+    prg: usize,
+    chr: usize,
+    ram: usize,
+    ciram: usize,
+    exram: usize,
+) -> Gate
+    ensures { λ r. ⌜ r ≡ gateOf (stateOf (wordsAt (now (bytes .entry)) (now (halves .entry)) (now (wide .entry)) (now («prg_banks» .entry)) (now («chr_banks» .entry)) (now («prg_pages» .entry)) (now («chr_pages» .entry)))) prg chr ram ciram exram ⌝ }
+{
+    let z = read::lengths_of(bytes, wide);
+    if !z.loaded {
+        return Gate::Shut(Refusal::State);
+    }
+    let same = same_lengths(z, prg, chr, ram, ciram, exram);
+    if !same {
+        return Gate::Shut(Refusal::Buffers);
+    }
+    let ok = ranges::in_range(
+        bytes,
+        halves,
+        wide,
+        prg_banks,
+        chr_banks,
+        prg_pages,
+        chr_pages,
+    );
+    if !ok {
+        return Gate::Shut(Refusal::State);
+    }
+    Gate::Open
+}

@@ -1,0 +1,353 @@
+/* The board for a host in C: the functions of target/staticlib/libhost.a (`rt staticlib host`). docs/HOST.md says what each number means and
+ * what the host must keep. The functions allocate nothing, keep nothing and trust nothing beyond each pointer and its length: an array has
+ * the length that stands in its brackets, a buffer the length given after it, and a pointer is never null, at length 0 too. No two lent
+ * arrays or buffers overlap where one of them is written. */
+#ifndef MMC5_H
+#define MMC5_H
+
+#include <stddef.h>
+#include <stdint.h>
+
+/* The state: 408 bytes that the host lends to each call and keeps between calls. All zero is a state that is not loaded. */
+typedef struct mmc5_state {
+    uint32_t wide[6];
+    uint32_t prg_pages[64];
+    uint32_t chr_pages[16];
+    uint16_t halves[5];
+    uint8_t bytes[33];
+    uint8_t prg_banks[5];
+    uint8_t chr_banks[16];
+} mmc5_state;
+
+/* The five buffers. PRG-ROM is only read. */
+typedef struct mmc5_memory {
+    const uint8_t *prg;
+    size_t prg_len;
+    uint8_t *chr;
+    size_t chr_len;
+    uint8_t *ram;
+    size_t ram_len;
+    uint8_t *ciram;
+    size_t ciram_len;
+    uint8_t *exram;
+    size_t exram_len;
+} mmc5_memory;
+
+/* An answer: its value, its letter ('-' 'R' 'S' 'M' 'B', or '!' for a refusal), whether the interrupt is up after the call. */
+#define MMC5_VALUE(told) ((uint8_t)(told))
+#define MMC5_LETTER(told) ((char)((told) >> 8 & 0x7F))
+#define MMC5_INTERRUPT(told) ((told) >> 15 & 1)
+#define MMC5_REFUSED(told) (MMC5_LETTER(told) == '!')
+
+uint32_t mmc5_load(
+    uint8_t bytes[33],
+    uint16_t halves[5],
+    uint32_t wide[6],
+    uint8_t prg_banks[5],
+    uint8_t chr_banks[16],
+    uint32_t prg_pages[64],
+    uint32_t chr_pages[16],
+    const uint8_t *prg,
+    size_t prg_len,
+    const uint8_t *chr,
+    size_t chr_len,
+    const uint8_t *ram,
+    size_t ram_len,
+    const uint8_t *ciram,
+    size_t ciram_len,
+    const uint8_t *exram,
+    size_t exram_len,
+    uint8_t chr_writable,
+    uint8_t mirroring);
+uint32_t mmc5_cpu_read(
+    uint8_t bytes[33],
+    uint16_t halves[5],
+    uint32_t wide[6],
+    uint8_t prg_banks[5],
+    uint8_t chr_banks[16],
+    uint32_t prg_pages[64],
+    uint32_t chr_pages[16],
+    const uint8_t *prg,
+    size_t prg_len,
+    const uint8_t *chr,
+    size_t chr_len,
+    const uint8_t *ram,
+    size_t ram_len,
+    const uint8_t *ciram,
+    size_t ciram_len,
+    const uint8_t *exram,
+    size_t exram_len,
+    uint16_t addr);
+uint32_t mmc5_cpu_peek(
+    const uint8_t bytes[33],
+    const uint16_t halves[5],
+    const uint32_t wide[6],
+    const uint8_t prg_banks[5],
+    const uint8_t chr_banks[16],
+    const uint32_t prg_pages[64],
+    const uint32_t chr_pages[16],
+    const uint8_t *prg,
+    size_t prg_len,
+    const uint8_t *chr,
+    size_t chr_len,
+    const uint8_t *ram,
+    size_t ram_len,
+    const uint8_t *ciram,
+    size_t ciram_len,
+    const uint8_t *exram,
+    size_t exram_len,
+    uint16_t addr);
+uint32_t mmc5_cpu_write(
+    uint8_t bytes[33],
+    uint16_t halves[5],
+    uint32_t wide[6],
+    uint8_t prg_banks[5],
+    uint8_t chr_banks[16],
+    uint32_t prg_pages[64],
+    uint32_t chr_pages[16],
+    const uint8_t *prg,
+    size_t prg_len,
+    uint8_t *chr,
+    size_t chr_len,
+    uint8_t *ram,
+    size_t ram_len,
+    uint8_t *ciram,
+    size_t ciram_len,
+    uint8_t *exram,
+    size_t exram_len,
+    uint16_t addr,
+    uint8_t val);
+uint32_t mmc5_ppu_fetch(
+    uint8_t bytes[33],
+    uint16_t halves[5],
+    uint32_t wide[6],
+    uint8_t prg_banks[5],
+    uint8_t chr_banks[16],
+    uint32_t prg_pages[64],
+    uint32_t chr_pages[16],
+    const uint8_t *prg,
+    size_t prg_len,
+    const uint8_t *chr,
+    size_t chr_len,
+    const uint8_t *ram,
+    size_t ram_len,
+    const uint8_t *ciram,
+    size_t ciram_len,
+    const uint8_t *exram,
+    size_t exram_len,
+    uint16_t addr);
+uint32_t mmc5_ppu_peek(
+    const uint8_t bytes[33],
+    const uint16_t halves[5],
+    const uint32_t wide[6],
+    const uint8_t prg_banks[5],
+    const uint8_t chr_banks[16],
+    const uint32_t prg_pages[64],
+    const uint32_t chr_pages[16],
+    const uint8_t *prg,
+    size_t prg_len,
+    const uint8_t *chr,
+    size_t chr_len,
+    const uint8_t *ram,
+    size_t ram_len,
+    const uint8_t *ciram,
+    size_t ciram_len,
+    const uint8_t *exram,
+    size_t exram_len,
+    uint16_t addr);
+uint32_t mmc5_sprite_peek(
+    const uint8_t bytes[33],
+    const uint16_t halves[5],
+    const uint32_t wide[6],
+    const uint8_t prg_banks[5],
+    const uint8_t chr_banks[16],
+    const uint32_t prg_pages[64],
+    const uint32_t chr_pages[16],
+    const uint8_t *prg,
+    size_t prg_len,
+    const uint8_t *chr,
+    size_t chr_len,
+    const uint8_t *ram,
+    size_t ram_len,
+    const uint8_t *ciram,
+    size_t ciram_len,
+    const uint8_t *exram,
+    size_t exram_len,
+    uint16_t addr);
+uint32_t mmc5_ppu_write(
+    uint8_t bytes[33],
+    uint16_t halves[5],
+    uint32_t wide[6],
+    uint8_t prg_banks[5],
+    uint8_t chr_banks[16],
+    uint32_t prg_pages[64],
+    uint32_t chr_pages[16],
+    const uint8_t *prg,
+    size_t prg_len,
+    uint8_t *chr,
+    size_t chr_len,
+    uint8_t *ram,
+    size_t ram_len,
+    uint8_t *ciram,
+    size_t ciram_len,
+    uint8_t *exram,
+    size_t exram_len,
+    uint16_t addr,
+    uint8_t val);
+uint32_t mmc5_ppu_register(
+    uint8_t bytes[33],
+    uint16_t halves[5],
+    uint32_t wide[6],
+    uint8_t prg_banks[5],
+    uint8_t chr_banks[16],
+    uint32_t prg_pages[64],
+    uint32_t chr_pages[16],
+    uint16_t addr,
+    uint8_t val);
+uint32_t mmc5_clock(
+    uint8_t bytes[33],
+    uint16_t halves[5],
+    uint32_t wide[6],
+    uint8_t prg_banks[5],
+    uint8_t chr_banks[16],
+    uint32_t prg_pages[64],
+    uint32_t chr_pages[16]);
+uint32_t mmc5_reset(
+    uint8_t bytes[33],
+    uint16_t halves[5],
+    uint32_t wide[6],
+    uint8_t prg_banks[5],
+    uint8_t chr_banks[16],
+    uint32_t prg_pages[64],
+    uint32_t chr_pages[16]);
+uint32_t mmc5_mirroring(
+    const uint8_t bytes[33],
+    const uint16_t halves[5],
+    const uint32_t wide[6],
+    const uint8_t prg_banks[5],
+    const uint8_t chr_banks[16],
+    const uint32_t prg_pages[64],
+    const uint32_t chr_pages[16]);
+uint32_t mmc5_interrupt(
+    const uint8_t bytes[33],
+    const uint16_t halves[5],
+    const uint32_t wide[6],
+    const uint8_t prg_banks[5],
+    const uint8_t chr_banks[16],
+    const uint32_t prg_pages[64],
+    const uint32_t chr_pages[16]);
+uint32_t mmc5_cpu_entry(
+    const uint8_t bytes[33],
+    const uint16_t halves[5],
+    const uint32_t wide[6],
+    const uint8_t prg_banks[5],
+    const uint8_t chr_banks[16],
+    const uint32_t prg_pages[64],
+    const uint32_t chr_pages[16],
+    uint16_t addr);
+uint32_t mmc5_ppu_entry(
+    const uint8_t bytes[33],
+    const uint16_t halves[5],
+    const uint32_t wide[6],
+    const uint8_t prg_banks[5],
+    const uint8_t chr_banks[16],
+    const uint32_t prg_pages[64],
+    const uint32_t chr_pages[16],
+    uint16_t addr);
+uint32_t mmc5_cpu_page(
+    const uint8_t bytes[33],
+    const uint16_t halves[5],
+    const uint32_t wide[6],
+    const uint8_t prg_banks[5],
+    const uint8_t chr_banks[16],
+    const uint32_t prg_pages[64],
+    const uint32_t chr_pages[16],
+    const uint8_t *prg,
+    size_t prg_len,
+    const uint8_t *chr,
+    size_t chr_len,
+    const uint8_t *ram,
+    size_t ram_len,
+    const uint8_t *ciram,
+    size_t ciram_len,
+    const uint8_t *exram,
+    size_t exram_len,
+    uint16_t addr,
+    uint8_t *out,
+    size_t out_len);
+uint32_t mmc5_ppu_page(
+    const uint8_t bytes[33],
+    const uint16_t halves[5],
+    const uint32_t wide[6],
+    const uint8_t prg_banks[5],
+    const uint8_t chr_banks[16],
+    const uint32_t prg_pages[64],
+    const uint32_t chr_pages[16],
+    const uint8_t *prg,
+    size_t prg_len,
+    const uint8_t *chr,
+    size_t chr_len,
+    const uint8_t *ram,
+    size_t ram_len,
+    const uint8_t *ciram,
+    size_t ciram_len,
+    const uint8_t *exram,
+    size_t exram_len,
+    uint16_t addr,
+    uint8_t *out,
+    size_t out_len);
+
+/* The same over the two structs. */
+static inline uint32_t mmc5_on_load(mmc5_state *s, const mmc5_memory *m, uint8_t chr_writable, uint8_t mirroring) {
+    return mmc5_load(s->bytes, s->halves, s->wide, s->prg_banks, s->chr_banks, s->prg_pages, s->chr_pages, m->prg, m->prg_len, m->chr, m->chr_len, m->ram, m->ram_len, m->ciram, m->ciram_len, m->exram, m->exram_len, chr_writable, mirroring);
+}
+static inline uint32_t mmc5_on_cpu_read(mmc5_state *s, const mmc5_memory *m, uint16_t addr) {
+    return mmc5_cpu_read(s->bytes, s->halves, s->wide, s->prg_banks, s->chr_banks, s->prg_pages, s->chr_pages, m->prg, m->prg_len, m->chr, m->chr_len, m->ram, m->ram_len, m->ciram, m->ciram_len, m->exram, m->exram_len, addr);
+}
+static inline uint32_t mmc5_on_cpu_peek(const mmc5_state *s, const mmc5_memory *m, uint16_t addr) {
+    return mmc5_cpu_peek(s->bytes, s->halves, s->wide, s->prg_banks, s->chr_banks, s->prg_pages, s->chr_pages, m->prg, m->prg_len, m->chr, m->chr_len, m->ram, m->ram_len, m->ciram, m->ciram_len, m->exram, m->exram_len, addr);
+}
+static inline uint32_t mmc5_on_cpu_write(mmc5_state *s, const mmc5_memory *m, uint16_t addr, uint8_t val) {
+    return mmc5_cpu_write(s->bytes, s->halves, s->wide, s->prg_banks, s->chr_banks, s->prg_pages, s->chr_pages, m->prg, m->prg_len, m->chr, m->chr_len, m->ram, m->ram_len, m->ciram, m->ciram_len, m->exram, m->exram_len, addr, val);
+}
+static inline uint32_t mmc5_on_ppu_fetch(mmc5_state *s, const mmc5_memory *m, uint16_t addr) {
+    return mmc5_ppu_fetch(s->bytes, s->halves, s->wide, s->prg_banks, s->chr_banks, s->prg_pages, s->chr_pages, m->prg, m->prg_len, m->chr, m->chr_len, m->ram, m->ram_len, m->ciram, m->ciram_len, m->exram, m->exram_len, addr);
+}
+static inline uint32_t mmc5_on_ppu_peek(const mmc5_state *s, const mmc5_memory *m, uint16_t addr) {
+    return mmc5_ppu_peek(s->bytes, s->halves, s->wide, s->prg_banks, s->chr_banks, s->prg_pages, s->chr_pages, m->prg, m->prg_len, m->chr, m->chr_len, m->ram, m->ram_len, m->ciram, m->ciram_len, m->exram, m->exram_len, addr);
+}
+static inline uint32_t mmc5_on_sprite_peek(const mmc5_state *s, const mmc5_memory *m, uint16_t addr) {
+    return mmc5_sprite_peek(s->bytes, s->halves, s->wide, s->prg_banks, s->chr_banks, s->prg_pages, s->chr_pages, m->prg, m->prg_len, m->chr, m->chr_len, m->ram, m->ram_len, m->ciram, m->ciram_len, m->exram, m->exram_len, addr);
+}
+static inline uint32_t mmc5_on_ppu_write(mmc5_state *s, const mmc5_memory *m, uint16_t addr, uint8_t val) {
+    return mmc5_ppu_write(s->bytes, s->halves, s->wide, s->prg_banks, s->chr_banks, s->prg_pages, s->chr_pages, m->prg, m->prg_len, m->chr, m->chr_len, m->ram, m->ram_len, m->ciram, m->ciram_len, m->exram, m->exram_len, addr, val);
+}
+static inline uint32_t mmc5_on_ppu_register(mmc5_state *s, uint16_t addr, uint8_t val) {
+    return mmc5_ppu_register(s->bytes, s->halves, s->wide, s->prg_banks, s->chr_banks, s->prg_pages, s->chr_pages, addr, val);
+}
+static inline uint32_t mmc5_on_clock(mmc5_state *s) {
+    return mmc5_clock(s->bytes, s->halves, s->wide, s->prg_banks, s->chr_banks, s->prg_pages, s->chr_pages);
+}
+static inline uint32_t mmc5_on_reset(mmc5_state *s) {
+    return mmc5_reset(s->bytes, s->halves, s->wide, s->prg_banks, s->chr_banks, s->prg_pages, s->chr_pages);
+}
+static inline uint32_t mmc5_on_mirroring(const mmc5_state *s) {
+    return mmc5_mirroring(s->bytes, s->halves, s->wide, s->prg_banks, s->chr_banks, s->prg_pages, s->chr_pages);
+}
+static inline uint32_t mmc5_on_interrupt(const mmc5_state *s) {
+    return mmc5_interrupt(s->bytes, s->halves, s->wide, s->prg_banks, s->chr_banks, s->prg_pages, s->chr_pages);
+}
+static inline uint32_t mmc5_on_cpu_entry(const mmc5_state *s, uint16_t addr) {
+    return mmc5_cpu_entry(s->bytes, s->halves, s->wide, s->prg_banks, s->chr_banks, s->prg_pages, s->chr_pages, addr);
+}
+static inline uint32_t mmc5_on_ppu_entry(const mmc5_state *s, uint16_t addr) {
+    return mmc5_ppu_entry(s->bytes, s->halves, s->wide, s->prg_banks, s->chr_banks, s->prg_pages, s->chr_pages, addr);
+}
+static inline uint32_t mmc5_on_cpu_page(const mmc5_state *s, const mmc5_memory *m, uint16_t addr, uint8_t out[1024]) {
+    return mmc5_cpu_page(s->bytes, s->halves, s->wide, s->prg_banks, s->chr_banks, s->prg_pages, s->chr_pages, m->prg, m->prg_len, m->chr, m->chr_len, m->ram, m->ram_len, m->ciram, m->ciram_len, m->exram, m->exram_len, addr, out, 1024);
+}
+static inline uint32_t mmc5_on_ppu_page(const mmc5_state *s, const mmc5_memory *m, uint16_t addr, uint8_t out[1024]) {
+    return mmc5_ppu_page(s->bytes, s->halves, s->wide, s->prg_banks, s->chr_banks, s->prg_pages, s->chr_pages, m->prg, m->prg_len, m->chr, m->chr_len, m->ram, m->ram_len, m->ciram, m->ciram_len, m->exram, m->exram_len, addr, out, 1024);
+}
+
+#endif

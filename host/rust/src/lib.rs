@@ -1,0 +1,227 @@
+//! The board for a server in Rust: every call over a state and five buffers that the server owns.
+//!
+//! The work is done by the proved static library. Each of its calls takes whatever the state holds and
+//! refuses with document 01's numbers; it allocates nothing, keeps nothing, and reads and writes only what
+//! is lent here. So nothing in this crate has to be believed but the pointers and lengths that it hands on.
+
+mod ffi;
+
+/// The state, as plain words. `docs/HOST.md` says which is which; the server may copy and store them.
+#[repr(C)]
+#[derive(Clone, Debug, PartialEq, Eq)]
+pub struct State {
+    pub wide: [u32; 6],
+    pub prg_pages: [u32; 64],
+    pub chr_pages: [u32; 16],
+    pub halves: [u16; 5],
+    pub bytes: [u8; 33],
+    pub prg_banks: [u8; 5],
+    pub chr_banks: [u8; 16],
+}
+
+/// The five buffers. PRG-ROM is only read.
+pub struct Memory<'a> {
+    pub prg: &'a [u8],
+    pub chr: &'a mut [u8],
+    pub ram: &'a mut [u8],
+    pub ciram: &'a mut [u8],
+    pub exram: &'a mut [u8],
+}
+
+/// What a call answers.
+#[derive(Clone, Copy, Debug, PartialEq, Eq)]
+pub enum Answer {
+    None,
+    Register(u8),
+    Served(u8),
+    Page(u8),
+    Blank,
+    Refused(u8),
+}
+
+/// An answer, and whether the interrupt is up after the call (never said of a refusal or a peek).
+#[derive(Clone, Copy, Debug, PartialEq, Eq)]
+pub struct Told {
+    pub answer: Answer,
+    pub interrupt: bool,
+}
+
+/// A page table's entry: the buffer by number (0 blank, 1 PRG-ROM, 2 PRG-RAM, 3 CHR, 4 CIRAM, 5 ExRAM), the page's number in it, and
+/// whether it takes writes.
+#[derive(Clone, Copy, Debug, PartialEq, Eq)]
+pub struct Entry {
+    pub source: u8,
+    pub index: u16,
+    pub writable: bool,
+}
+
+fn told(number: u32) -> Told {
+    let value = number as u8;
+    let answer = match (number >> 8 & 0x7F) as u8 {
+        b'-' => Answer::None,
+        b'R' => Answer::Register(value),
+        b'S' => Answer::Served(value),
+        b'M' => Answer::Page(value),
+        b'B' => Answer::Blank,
+        _ => Answer::Refused(value),
+    };
+    Told {
+        answer,
+        interrupt: number & 0x8000 != 0,
+    }
+}
+
+fn entry(number: u32) -> Result<Entry, u8> {
+    let source = (number >> 16) as u8;
+    if source == b'!' {
+        return Err(number as u8);
+    }
+    Ok(Entry {
+        source,
+        index: number as u16 & 0x7FFF,
+        writable: number & 0x8000 != 0,
+    })
+}
+
+/// A number, or a refusal's.
+fn number_or_refusal(number: u32) -> Result<u8, u8> {
+    if number >> 8 == u32::from(b'!') {
+        Err(number as u8)
+    } else {
+        Ok(number as u8)
+    }
+}
+
+/// The lent words, as pointers.
+macro_rules! on {
+    ($name:ident, mut $s:expr $(, $more:expr)*) => {
+        unsafe {
+            ffi::$name(
+                $s.bytes.as_mut_ptr(), $s.halves.as_mut_ptr(), $s.wide.as_mut_ptr(), $s.prg_banks.as_mut_ptr(),
+                $s.chr_banks.as_mut_ptr(), $s.prg_pages.as_mut_ptr(), $s.chr_pages.as_mut_ptr() $(, $more)*
+            )
+        }
+    };
+    ($name:ident, $s:expr $(, $more:expr)*) => {
+        unsafe {
+            ffi::$name(
+                $s.bytes.as_ptr(), $s.halves.as_ptr(), $s.wide.as_ptr(), $s.prg_banks.as_ptr(),
+                $s.chr_banks.as_ptr(), $s.prg_pages.as_ptr(), $s.chr_pages.as_ptr() $(, $more)*
+            )
+        }
+    };
+}
+
+/// The same with the five buffers, read only.
+macro_rules! over {
+    ($name:ident, [$($mode:tt)*], $s:expr, $m:expr $(, $more:expr)*) => {
+        on!(
+            $name, $($mode)* $s, $m.prg.as_ptr(), $m.prg.len(), $m.chr.as_ptr(), $m.chr.len(), $m.ram.as_ptr(), $m.ram.len(),
+            $m.ciram.as_ptr(), $m.ciram.len(), $m.exram.as_ptr(), $m.exram.len() $(, $more)*
+        )
+    };
+}
+
+/// The same where the buffers may be written.
+macro_rules! writing {
+    ($name:ident, $s:expr, $m:expr; $($after:expr),*) => {
+        on!(
+            $name, mut $s, $m.prg.as_ptr(), $m.prg.len(), $m.chr.as_mut_ptr(), $m.chr.len(), $m.ram.as_mut_ptr(), $m.ram.len(),
+            $m.ciram.as_mut_ptr(), $m.ciram.len(), $m.exram.as_mut_ptr(), $m.exram.len(), $($after),*
+        )
+    };
+}
+
+impl State {
+    /// A state that is not loaded: every call but load refuses it with 5.
+    pub const fn zero() -> Self {
+        Self {
+            wide: [0; 6],
+            prg_pages: [0; 64],
+            chr_pages: [0; 16],
+            halves: [0; 5],
+            bytes: [0; 33],
+            prg_banks: [0; 5],
+            chr_banks: [0; 16],
+        }
+    }
+
+    /// Load over the five buffers, of which no byte is written. Mirroring: 0 Horizontal, 1 Vertical, 2 SingleScreenA, 3 SingleScreenB,
+    /// 4 and above FourScreen. A refused load leaves the zero state.
+    pub fn load(&mut self, m: &Memory<'_>, chr_writable: bool, mirroring: u8) -> Result<(), u8> {
+        match told(over!(mmc5_load, [mut], self, m, u8::from(chr_writable), mirroring)).answer {
+            Answer::Refused(number) => Err(number),
+            _ => Ok(()),
+        }
+    }
+
+    pub fn cpu_read(&mut self, m: &Memory<'_>, addr: u16) -> Told {
+        told(over!(mmc5_cpu_read, [mut], self, m, addr))
+    }
+
+    pub fn cpu_peek(&self, m: &Memory<'_>, addr: u16) -> Answer {
+        told(over!(mmc5_cpu_peek, [], self, m, addr)).answer
+    }
+
+    pub fn cpu_write(&mut self, m: &mut Memory<'_>, addr: u16, val: u8) -> Told {
+        told(writing!(mmc5_cpu_write, self, m; addr, val))
+    }
+
+    pub fn ppu_fetch(&mut self, m: &Memory<'_>, addr: u16) -> Told {
+        told(over!(mmc5_ppu_fetch, [mut], self, m, addr))
+    }
+
+    pub fn ppu_peek(&self, m: &Memory<'_>, addr: u16) -> Answer {
+        told(over!(mmc5_ppu_peek, [], self, m, addr)).answer
+    }
+
+    pub fn sprite_peek(&self, m: &Memory<'_>, addr: u16) -> Answer {
+        told(over!(mmc5_sprite_peek, [], self, m, addr)).answer
+    }
+
+    pub fn ppu_write(&mut self, m: &mut Memory<'_>, addr: u16, val: u8) -> Told {
+        told(writing!(mmc5_ppu_write, self, m; addr, val))
+    }
+
+    pub fn ppu_register(&mut self, addr: u16, val: u8) -> Told {
+        told(on!(mmc5_ppu_register, mut self, addr, val))
+    }
+
+    pub fn clock(&mut self) -> Told {
+        told(on!(mmc5_clock, mut self))
+    }
+
+    pub fn reset(&mut self) -> Told {
+        told(on!(mmc5_reset, mut self))
+    }
+
+    /// The mirroring by number, or a refusal's number.
+    pub fn mirroring(&self) -> Result<u8, u8> {
+        number_or_refusal(on!(mmc5_mirroring, self))
+    }
+
+    /// Whether the interrupt is up, or a refusal's number.
+    pub fn interrupt(&self) -> Result<bool, u8> {
+        number_or_refusal(on!(mmc5_interrupt, self)).map(|up| up != 0)
+    }
+
+    /// The PRG table's entry at a CPU address, or a refusal's number.
+    pub fn cpu_entry(&self, addr: u16) -> Result<Entry, u8> {
+        entry(on!(mmc5_cpu_entry, self, addr))
+    }
+
+    /// The CHR table's entry at a PPU address, or a refusal's number.
+    pub fn ppu_entry(&self, addr: u16) -> Result<Entry, u8> {
+        entry(on!(mmc5_ppu_entry, self, addr))
+    }
+
+    /// Copies the 1,024 bytes that the page at a CPU address shows of PRG-ROM or PRG-RAM; false, and nothing copied, for any other page.
+    pub fn cpu_page(&self, m: &Memory<'_>, addr: u16, out: &mut [u8; 1024]) -> bool {
+        over!(mmc5_cpu_page, [], self, m, addr, out.as_mut_ptr(), out.len()) != 0
+    }
+
+    /// Copies the 1,024 bytes that the page at a PPU address shows of CHR; false, and nothing copied, for any other page.
+    pub fn ppu_page(&self, m: &Memory<'_>, addr: u16, out: &mut [u8; 1024]) -> bool {
+        over!(mmc5_ppu_page, [], self, m, addr, out.as_mut_ptr(), out.len()) != 0
+    }
+}

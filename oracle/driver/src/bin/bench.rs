@@ -1,0 +1,97 @@
+//! bench [PASSES]: the Rust and the port on the same traces in one process. Its last line is `ratio: replay R, call C`.
+//!
+//! The Rust is called without any test of ours: the register, then the page. The port is called through the host boundary, where each
+//! single call checks the lent lengths and the whole state.
+
+use driver::{
+    pair::{self, Buffers},
+    speed::{Mix, median, mixes},
+};
+use mmc5::State;
+use oracle::{board::Board, cartridge::Cartridge, common::ResetKind, mapper::Map, trace::Record};
+use std::{env, hint::black_box, time::Instant};
+
+/// One record on the Rust, as a console's bus makes the call.
+#[inline(always)]
+fn rust_call(board: &mut Board, record: Record) -> u32 {
+    let Board { exrom, memory, .. } = board;
+    match record {
+        Record::Clock => exrom.clock(),
+        Record::CpuRead(addr) => return exrom.prg_read(addr).unwrap_or_else(|| memory.prg_peek(addr)).into(),
+        Record::CpuWrite(addr, val) => {
+            exrom.write_register(memory, addr, val);
+            memory.prg_write(addr, val);
+        }
+        Record::PpuRegisterWrite(addr, val) => exrom.ppu_write(addr, val),
+        Record::PpuFetch(addr) => return exrom.chr_read(memory, addr).unwrap_or_else(|| memory.chr_peek(addr)).into(),
+        Record::Reset => exrom.reset(ResetKind::Soft),
+        Record::PpuMemoryWrite(addr, val) => memory.chr_write(addr, val),
+    }
+    u32::from(exrom.irq_pending())
+}
+
+#[inline(always)]
+fn port_call(s: &mut State, b: &mut Buffers, record: Record) -> u32 {
+    let mut m = b.lent();
+    let told = match record {
+        Record::Clock => s.clock(),
+        Record::CpuRead(addr) => s.cpu_read(&m, addr),
+        Record::CpuWrite(addr, val) => s.cpu_write(&mut m, addr, val),
+        Record::PpuRegisterWrite(addr, val) => s.ppu_register(addr, val),
+        Record::PpuFetch(addr) => s.ppu_fetch(&m, addr),
+        Record::Reset => s.reset(),
+        Record::PpuMemoryWrite(addr, val) => s.ppu_write(&mut m, addr, val),
+    };
+    u32::from(told.interrupt)
+}
+
+fn loaded(c: Cartridge) -> (Board, State, Buffers) {
+    let pair = pair::load(c).ok().flatten().expect("both load it");
+    (pair.rust, pair.state, pair.buffers)
+}
+
+/// Median ns a call over the records, both boards: each pass starts from load and plays the records a few times.
+fn calls(mix: &Mix, records: &[Record], passes: usize) -> (f64, f64) {
+    let rounds = (200_000 / records.len().max(1)).max(1);
+    let (mut theirs, mut ours) = (Vec::new(), Vec::new());
+    for _ in 0..passes {
+        let (mut board, mut state, mut buffers) = loaded(mix.cartridge);
+        let start = Instant::now();
+        for _ in 0..rounds {
+            for &record in records {
+                black_box(rust_call(&mut board, black_box(record)));
+            }
+        }
+        theirs.push(start.elapsed().as_nanos() as f64 / (rounds * records.len()) as f64);
+        let start = Instant::now();
+        for _ in 0..rounds {
+            for &record in records {
+                black_box(port_call(&mut state, &mut buffers, black_box(record)));
+            }
+        }
+        ours.push(start.elapsed().as_nanos() as f64 / (rounds * records.len()) as f64);
+    }
+    (median(&mut theirs), median(&mut ours))
+}
+
+fn row(mix: &str, what: &str, (theirs, ours): (f64, f64)) -> f64 {
+    println!("{mix:<16} {what:<14} {theirs:>8.1} {ours:>8.1} {:>7.2}", ours / theirs);
+    ours / theirs
+}
+
+fn main() {
+    let passes = env::args().nth(1).map_or(9, |word| word.parse().expect("a number"));
+    println!("{:<16} {:<14} {:>8} {:>8} {:>7}", "mix", "what", "Rust ns", "port ns", "ratio");
+    let mut worst_call: f64 = 0.0;
+    for mix in mixes() {
+        let all = row(mix.name, "single call", calls(&mix, &mix.records, passes));
+        worst_call = worst_call.max(all);
+        for (name, kind) in [("clock", 0), ("read", 1), ("write", 2), ("fetch", 4)] {
+            let some: Vec<Record> = mix.records.iter().copied().filter(|r| r.kind() == kind).collect();
+            if some.len() > 8 {
+                row(mix.name, name, calls(&mix, &some, passes));
+            }
+        }
+    }
+    println!("ratio: replay -, call {worst_call:.2}");
+}

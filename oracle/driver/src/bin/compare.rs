@@ -1,0 +1,117 @@
+//! compare [RECORDS] [SEED]: both boards are given the same calls. Its last line is `compared N records, D differences`.
+
+use driver::{breaks, cartridges, pair};
+use oracle::{
+    generate::{self, random::Random},
+    trace::Reader,
+};
+use std::{env, time::Instant};
+
+/// What a run has seen.
+#[derive(Default)]
+struct Seen {
+    records: u64,
+    calls: u64,
+    wholes: u64,
+    traces: u64,
+    refused: u64,
+    loads_refused: u64,
+    broken: u64,
+    differences: u64,
+}
+
+impl Seen {
+    fn differ(&mut self, what: &str, why: String) {
+        self.differences += 1;
+        if self.differences <= 20 {
+            println!("DIFFERENCE: {what}: {why}");
+        }
+    }
+}
+
+/// One cartridge, one trace.
+fn trace(random: &mut Random, seen: &mut Seen) -> Result<(), String> {
+    if random.once_in(8) {
+        seen.calls += 1;
+        let bad = cartridges::bad(random);
+        if pair::load(bad)?.is_none() {
+            seen.loads_refused += 1;
+        }
+    }
+    let Some(mut pair) = pair::load(cartridges::good(random))? else {
+        return Err("a good cartridge was refused".into());
+    };
+    if random.once_in(4) {
+        pair.near_limits(random);
+    }
+    let kind = random.pick(&["play", "play", "wild", "wild", "damaged"]);
+    let records = 1 + random.below(3_000);
+    let bytes = generate::trace(kind, random.next(), records).expect("a kind");
+    seen.traces += 1;
+    let Ok(mut reader) = Reader::new(&bytes) else {
+        return Ok(());
+    };
+    let every = 200 + random.below(1_800);
+    let mut since = 0;
+    while let Ok(Some(record)) = reader.next_record() {
+        seen.records += 1;
+        seen.calls += 1;
+        let taken = pair.call(record).map_err(|why| format!("{kind}: {why}"))?;
+        since += 1;
+        if since % every == 0 {
+            pair.whole().map_err(|why| format!("{kind}: {why}"))?;
+            seen.wholes += 1;
+        } else if since % 64 == 0 {
+            pair.tables().map_err(|why| format!("{kind}: {why}"))?;
+        }
+        if !taken {
+            seen.refused += 1;
+            if kind != "wild" {
+                break;
+            }
+        }
+    }
+    pair.whole().map_err(|why| format!("{kind}: {why}"))?;
+    seen.wholes += 1;
+    for _ in 0..4 {
+        seen.broken += 1;
+        seen.calls += breaks::compare(random, &pair)? as u64;
+    }
+    Ok(())
+}
+
+fn main() {
+    let mut words = env::args().skip(1).map(|word| word.parse::<u64>().expect("a number"));
+    let records = words.next().unwrap_or(100_000);
+    let seed = words.next().unwrap_or(1);
+    let mut seen = Seen::default();
+    let start = Instant::now();
+    let mut told = 0;
+    let mut case = 0;
+    while seen.records < records {
+        // Each case has a seed of its own, so that it can be run alone.
+        let mut random = Random::new(seed.wrapping_mul(0x9E37_79B9).wrapping_add(case));
+        if let Err(why) = trace(&mut random, &mut seen) {
+            seen.differ(&format!("seed {seed}, case {case}"), why);
+        }
+        case += 1;
+        if start.elapsed().as_secs() >= told + 10 {
+            told = start.elapsed().as_secs();
+            println!("{told} s: {} records, {} differences", seen.records, seen.differences);
+        }
+    }
+    println!(
+        "seed {seed}: {} traces, {} calls, {} refused calls, {} refused loads, {} whole comparisons, {} broken states, {} s",
+        seen.traces,
+        seen.calls,
+        seen.refused,
+        seen.loads_refused,
+        seen.wholes,
+        seen.broken,
+        start.elapsed().as_secs()
+    );
+    println!("compared {} records, {} differences", seen.records, seen.differences);
+    if seen.differences > 0 {
+        std::process::exit(1);
+    }
+}

@@ -1,0 +1,6 @@
+//! Both boards over the same cartridge, and what is compared between them.
+
+pub mod breaks;
+pub mod cartridges;
+pub mod pair;
+pub mod speed;
