@@ -5,6 +5,5 @@ pub mod Stored
 pub mod Wait
 pub mod SentenceIs
 pub mod InRange
-pub mod Calls
 pub mod Transfer
 pub mod Worked
