@@ -11,8 +11,8 @@
 /* The state: 408 bytes that the host lends to each call and keeps between calls. All zero is a state that is not loaded. */
 typedef struct mmc5_state {
     uint32_t wide[6];
-    uint32_t prg_pages[64];
-    uint32_t chr_pages[16];
+    uint16_t prg_pages[64];
+    uint16_t chr_pages[16];
     uint16_t halves[5];
     uint8_t bytes[33];
     uint8_t prg_banks[5];
@@ -45,8 +45,8 @@ uint32_t mmc5_load(
     uint32_t wide[6],
     uint8_t prg_banks[5],
     uint8_t chr_banks[16],
-    uint32_t prg_pages[64],
-    uint32_t chr_pages[16],
+    uint16_t prg_pages[64],
+    uint16_t chr_pages[16],
     const uint8_t *prg,
     size_t prg_len,
     const uint8_t *chr,
@@ -65,8 +65,8 @@ uint32_t mmc5_cpu_read(
     uint32_t wide[6],
     uint8_t prg_banks[5],
     uint8_t chr_banks[16],
-    uint32_t prg_pages[64],
-    uint32_t chr_pages[16],
+    uint16_t prg_pages[64],
+    uint16_t chr_pages[16],
     const uint8_t *prg,
     size_t prg_len,
     const uint8_t *chr,
@@ -84,8 +84,8 @@ uint32_t mmc5_cpu_peek(
     const uint32_t wide[6],
     const uint8_t prg_banks[5],
     const uint8_t chr_banks[16],
-    const uint32_t prg_pages[64],
-    const uint32_t chr_pages[16],
+    const uint16_t prg_pages[64],
+    const uint16_t chr_pages[16],
     const uint8_t *prg,
     size_t prg_len,
     const uint8_t *chr,
@@ -103,8 +103,8 @@ uint32_t mmc5_cpu_write(
     uint32_t wide[6],
     uint8_t prg_banks[5],
     uint8_t chr_banks[16],
-    uint32_t prg_pages[64],
-    uint32_t chr_pages[16],
+    uint16_t prg_pages[64],
+    uint16_t chr_pages[16],
     const uint8_t *prg,
     size_t prg_len,
     uint8_t *chr,
@@ -123,8 +123,8 @@ uint32_t mmc5_ppu_fetch(
     uint32_t wide[6],
     uint8_t prg_banks[5],
     uint8_t chr_banks[16],
-    uint32_t prg_pages[64],
-    uint32_t chr_pages[16],
+    uint16_t prg_pages[64],
+    uint16_t chr_pages[16],
     const uint8_t *prg,
     size_t prg_len,
     const uint8_t *chr,
@@ -142,8 +142,8 @@ uint32_t mmc5_ppu_peek(
     const uint32_t wide[6],
     const uint8_t prg_banks[5],
     const uint8_t chr_banks[16],
-    const uint32_t prg_pages[64],
-    const uint32_t chr_pages[16],
+    const uint16_t prg_pages[64],
+    const uint16_t chr_pages[16],
     const uint8_t *prg,
     size_t prg_len,
     const uint8_t *chr,
@@ -161,8 +161,8 @@ uint32_t mmc5_sprite_peek(
     const uint32_t wide[6],
     const uint8_t prg_banks[5],
     const uint8_t chr_banks[16],
-    const uint32_t prg_pages[64],
-    const uint32_t chr_pages[16],
+    const uint16_t prg_pages[64],
+    const uint16_t chr_pages[16],
     const uint8_t *prg,
     size_t prg_len,
     const uint8_t *chr,
@@ -180,8 +180,8 @@ uint32_t mmc5_ppu_write(
     uint32_t wide[6],
     uint8_t prg_banks[5],
     uint8_t chr_banks[16],
-    uint32_t prg_pages[64],
-    uint32_t chr_pages[16],
+    uint16_t prg_pages[64],
+    uint16_t chr_pages[16],
     const uint8_t *prg,
     size_t prg_len,
     uint8_t *chr,
@@ -200,8 +200,8 @@ uint32_t mmc5_ppu_register(
     uint32_t wide[6],
     uint8_t prg_banks[5],
     uint8_t chr_banks[16],
-    uint32_t prg_pages[64],
-    uint32_t chr_pages[16],
+    uint16_t prg_pages[64],
+    uint16_t chr_pages[16],
     uint16_t addr,
     uint8_t val);
 uint32_t mmc5_clock(
@@ -210,40 +210,40 @@ uint32_t mmc5_clock(
     uint32_t wide[6],
     uint8_t prg_banks[5],
     uint8_t chr_banks[16],
-    uint32_t prg_pages[64],
-    uint32_t chr_pages[16]);
+    uint16_t prg_pages[64],
+    uint16_t chr_pages[16]);
 uint32_t mmc5_reset(
     uint8_t bytes[33],
     uint16_t halves[5],
     uint32_t wide[6],
     uint8_t prg_banks[5],
     uint8_t chr_banks[16],
-    uint32_t prg_pages[64],
-    uint32_t chr_pages[16]);
+    uint16_t prg_pages[64],
+    uint16_t chr_pages[16]);
 uint32_t mmc5_mirroring(
     const uint8_t bytes[33],
     const uint16_t halves[5],
     const uint32_t wide[6],
     const uint8_t prg_banks[5],
     const uint8_t chr_banks[16],
-    const uint32_t prg_pages[64],
-    const uint32_t chr_pages[16]);
+    const uint16_t prg_pages[64],
+    const uint16_t chr_pages[16]);
 uint32_t mmc5_interrupt(
     const uint8_t bytes[33],
     const uint16_t halves[5],
     const uint32_t wide[6],
     const uint8_t prg_banks[5],
     const uint8_t chr_banks[16],
-    const uint32_t prg_pages[64],
-    const uint32_t chr_pages[16]);
+    const uint16_t prg_pages[64],
+    const uint16_t chr_pages[16]);
 uint32_t mmc5_cpu_entry(
     const uint8_t bytes[33],
     const uint16_t halves[5],
     const uint32_t wide[6],
     const uint8_t prg_banks[5],
     const uint8_t chr_banks[16],
-    const uint32_t prg_pages[64],
-    const uint32_t chr_pages[16],
+    const uint16_t prg_pages[64],
+    const uint16_t chr_pages[16],
     uint16_t addr);
 uint32_t mmc5_ppu_entry(
     const uint8_t bytes[33],
@@ -251,8 +251,8 @@ uint32_t mmc5_ppu_entry(
     const uint32_t wide[6],
     const uint8_t prg_banks[5],
     const uint8_t chr_banks[16],
-    const uint32_t prg_pages[64],
-    const uint32_t chr_pages[16],
+    const uint16_t prg_pages[64],
+    const uint16_t chr_pages[16],
     uint16_t addr);
 uint32_t mmc5_cpu_page(
     const uint8_t bytes[33],
@@ -260,8 +260,8 @@ uint32_t mmc5_cpu_page(
     const uint32_t wide[6],
     const uint8_t prg_banks[5],
     const uint8_t chr_banks[16],
-    const uint32_t prg_pages[64],
-    const uint32_t chr_pages[16],
+    const uint16_t prg_pages[64],
+    const uint16_t chr_pages[16],
     const uint8_t *prg,
     size_t prg_len,
     const uint8_t *chr,
@@ -281,8 +281,8 @@ uint32_t mmc5_ppu_page(
     const uint32_t wide[6],
     const uint8_t prg_banks[5],
     const uint8_t chr_banks[16],
-    const uint32_t prg_pages[64],
-    const uint32_t chr_pages[16],
+    const uint16_t prg_pages[64],
+    const uint16_t chr_pages[16],
     const uint8_t *prg,
     size_t prg_len,
     const uint8_t *chr,

@@ -46,8 +46,8 @@ pub extern "C" fn mmc5_cpu_entry(
     wide: &[u32; 6],
     prg_banks: &[u8; 5],
     chr_banks: &[u8; 16],
-    prg_pages: &[u32; 64],
-    chr_pages: &[u32; 16],
+    prg_pages: &[u16; 64],
+    chr_pages: &[u16; 16],
     addr: u16,
 ) -> u32
     ensures { λ r. ⌜ r ≡ entryOn (wordsAt (now (bytes .entry)) (now (halves .entry)) (now (wide .entry)) (now («prg_banks» .entry)) (now («chr_banks» .entry)) (now («prg_pages» .entry)) (now («chr_pages» .entry))) (λ (s : State). prgEntry s addr) ⌝ }
@@ -81,8 +81,8 @@ pub extern "C" fn mmc5_ppu_entry(
     wide: &[u32; 6],
     prg_banks: &[u8; 5],
     chr_banks: &[u8; 16],
-    prg_pages: &[u32; 64],
-    chr_pages: &[u32; 16],
+    prg_pages: &[u16; 64],
+    chr_pages: &[u16; 16],
     addr: u16,
 ) -> u32
     ensures { λ r. ⌜ r ≡ entryOn (wordsAt (now (bytes .entry)) (now (halves .entry)) (now (wide .entry)) (now («prg_banks» .entry)) (now («chr_banks» .entry)) (now («prg_pages» .entry)) (now («chr_pages» .entry))) (λ (s : State). chrEntry s addr) ⌝ }
@@ -132,8 +132,8 @@ pub extern "C" fn mmc5_cpu_page<'a>(
     wide: &[u32; 6],
     prg_banks: &[u8; 5],
     chr_banks: &[u8; 16],
-    prg_pages: &[u32; 64],
-    chr_pages: &[u32; 16],
+    prg_pages: &[u16; 64],
+    chr_pages: &[u16; 16],
     prg: &'a [u8],
     chr: &[u8],
     ram: &'a [u8],
@@ -168,8 +168,8 @@ pub extern "C" fn mmc5_ppu_page(
     wide: &[u32; 6],
     prg_banks: &[u8; 5],
     chr_banks: &[u8; 16],
-    prg_pages: &[u32; 64],
-    chr_pages: &[u32; 16],
+    prg_pages: &[u16; 64],
+    chr_pages: &[u16; 16],
     prg: &[u8],
     chr: &[u8],
     ram: &[u8],

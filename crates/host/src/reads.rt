@@ -13,7 +13,7 @@ use memory::PageWord;
 use state::gate::Gate;
 
 // The page word at a CPU address, in a table lent as numbers.
-pub fn word_at(numbers: &[u32; 64], addr: u16) -> PageWord
+pub fn word_at(numbers: &[u16; 64], addr: u16) -> PageWord
     ensures { λ r. ⌜ r ≡ prgWordAt (pagesOf (now (numbers .entry))) addr ⌝ }
 {
     let k = (addr / 1024) as usize;
@@ -28,8 +28,8 @@ pub extern "C" fn mmc5_cpu_read(
     wide: &mut [u32; 6],
     prg_banks: &mut [u8; 5],
     chr_banks: &mut [u8; 16],
-    prg_pages: &mut [u32; 64],
-    chr_pages: &mut [u32; 16],
+    prg_pages: &mut [u16; 64],
+    chr_pages: &mut [u16; 16],
     prg: &[u8],
     chr: &[u8],
     ram: &[u8],

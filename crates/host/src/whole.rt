@@ -15,8 +15,8 @@ pub extern "C" fn mmc5_reset(
     wide: &mut [u32; 6],
     prg_banks: &mut [u8; 5],
     chr_banks: &mut [u8; 16],
-    prg_pages: &mut [u32; 64],
-    chr_pages: &mut [u32; 16],
+    prg_pages: &mut [u16; 64],
+    chr_pages: &mut [u16; 16],
 ) -> u32
     ensures { λ r. ⌜ leftOf r (wordsAt (now (bytes .exit)) (now (halves .exit)) (now (wide .exit)) (now («prg_banks» .exit)) (now («chr_banks» .exit)) (now («prg_pages» .exit)) (now («chr_pages» .exit))) ≡ onWords (wordsAt (now (bytes .entry)) (now (halves .entry)) (now (wide .entry)) (now («prg_banks» .entry)) (now («chr_banks» .entry)) (now («prg_pages» .entry)) (now («chr_pages» .entry))) (λ (s : State). resetCall s) ⌝ }
 {
@@ -57,8 +57,8 @@ pub extern "C" fn mmc5_ppu_register(
     wide: &mut [u32; 6],
     prg_banks: &mut [u8; 5],
     chr_banks: &mut [u8; 16],
-    prg_pages: &mut [u32; 64],
-    chr_pages: &mut [u32; 16],
+    prg_pages: &mut [u16; 64],
+    chr_pages: &mut [u16; 16],
     addr: u16,
     val: u8,
 ) -> u32
@@ -101,8 +101,8 @@ pub extern "C" fn mmc5_mirroring(
     wide: &[u32; 6],
     prg_banks: &[u8; 5],
     chr_banks: &[u8; 16],
-    prg_pages: &[u32; 64],
-    chr_pages: &[u32; 16],
+    prg_pages: &[u16; 64],
+    chr_pages: &[u16; 16],
 ) -> u32
     ensures { λ r. ⌜ r ≡ mirroringOn (wordsAt (now (bytes .entry)) (now (halves .entry)) (now (wide .entry)) (now («prg_banks» .entry)) (now («chr_banks» .entry)) (now («prg_pages» .entry)) (now («chr_pages» .entry))) (λ (s : State). mirroringCall s) ⌝ }
 {
@@ -130,8 +130,8 @@ pub extern "C" fn mmc5_interrupt(
     wide: &[u32; 6],
     prg_banks: &[u8; 5],
     chr_banks: &[u8; 16],
-    prg_pages: &[u32; 64],
-    chr_pages: &[u32; 16],
+    prg_pages: &[u16; 64],
+    chr_pages: &[u16; 16],
 ) -> u32
     ensures { λ r. ⌜ r ≡ interruptOn (wordsAt (now (bytes .entry)) (now (halves .entry)) (now (wide .entry)) (now («prg_banks» .entry)) (now («chr_banks» .entry)) (now («prg_pages» .entry)) (now («chr_pages» .entry))) (λ (s : State). interruptCall s) ⌝ }
 {

@@ -13,28 +13,40 @@ use Rattle.memory.specs.declared.Page.{Page}
 use Rattle.memory.specs.declared.PageWord.{PageWord}
 use Rattle.memory.specs.Words.{pick, pageOf}
 use Rattle.memory.specs.Tables.{whole, prgShows, prgShowsAs, chrShows, chrShowsAs, all}
-use Rattle.memory.proofs.Tests.{or-false, and-true, and-false, lt-is-le, le-is-le}
+use Rattle.memory.proofs.Tests.{split, or-false, and-true, and-false, lt-is-le, le-is-le}
 use Rattle.memory.proofs.WordLaws.{by-runs}
 
+-- A run around 0 in 16 bits, `below` numbers below it and `above` above: turned by `below`, it is tested by one comparison.
+turned : (n below above : ℕ) → n < 65536 → below ≤ 128 → above ≤ 1027
+    → ltb ((n + below) % 65536) (above + below) ≡ ltb n above || ltb (65535 - n) below
+turned n below above hn hb ha =
+    split (ltb n above)
+    (λ t. let k = ltb-true n above t in rw t (lt-ltb ((n + below) % 65536) (above + below) (omega arith)))
+    (λ f. let k = ltb-false n above f in rw f (lt-is-le ((n + below) % 65536) (above + below) (suc (65535 - n)) below (λ h. omega arith) (λ h. omega arith)))
+
 -- The words of a PRG table.
-pub prg-runs : (prg ram : ℕ) (w : PageWord) → prg ≤ 1048576 → ram ≤ 65536 → w .0 < 4294967296
-    → ltb (w .0) (3 + prg / 1024) || ltb (4294967295 - w .0) (2 * (ram / 1024)) ≡ prgShows prg ram (pageOf w)
+prg-runs : (prg ram : ℕ) (w : PageWord) → prg ≤ 1048576 → ram ≤ 65536 → w .0 < 65536
+    → ltb (w .0) (3 + prg / 1024) || ltb (65535 - w .0) (2 * (ram / 1024)) ≡ prgShows prg ram (pageOf w)
 unfolding prgShowsAs
 prg-runs prg ram w hp hr hw =
     let n = w .0 in
     let below = ltb n (3 + prg / 1024) in
-    let above = ltb (4294967295 - n) (2 * (ram / 1024)) in
+    let above = ltb (65535 - n) (2 * (ram / 1024)) in
     by-runs (λ (p : Page). below || above ≡ prgShows prg ram p) w
     (λ h. rw (lt-ltb n (3 + prg / 1024) (omega arith)))
     (λ g h. rw (lt-ltb n (3 + prg / 1024) (omega arith)))
-    (λ g h. rw (le-ltb (4294967295 - n) (2 * (ram / 1024)) (omega arith), or-false, and-true) (lt-is-le n (3 + prg / 1024) ((n - 3) * 1024 + 1024) prg (λ k. omega arith) (λ k. omega arith)))
-    (λ g h. rw (le-ltb n (3 + prg / 1024) (omega arith), le-ltb (4294967295 - n) (2 * (ram / 1024)) (omega arith)))
-    (λ g h. rw (le-ltb n (3 + prg / 1024) (omega arith), le-ltb (4294967295 - n) (2 * (ram / 1024)) (omega arith)))
-    (λ g h. rw (le-ltb n (3 + prg / 1024) (omega arith), le-ltb (4294967295 - n) (2 * (ram / 1024)) (omega arith)))
-    (λ g. rw (le-ltb n (3 + prg / 1024) (omega arith)) (lt-is-le (4294967295 - n) (2 * (ram / 1024)) ((4294967295 - n) / 2 * 1024 + 1024) ram (λ k. omega arith) (λ k. omega arith)))
+    (λ g h. rw (le-ltb (65535 - n) (2 * (ram / 1024)) (omega arith), or-false, and-true) (lt-is-le n (3 + prg / 1024) ((n - 3) * 1024 + 1024) prg (λ k. omega arith) (λ k. omega arith)))
+    (λ g h. rw (le-ltb n (3 + prg / 1024) (omega arith), le-ltb (65535 - n) (2 * (ram / 1024)) (omega arith)))
+    (λ g h. rw (le-ltb n (3 + prg / 1024) (omega arith), le-ltb (65535 - n) (2 * (ram / 1024)) (omega arith)))
+    (λ g h. rw (le-ltb n (3 + prg / 1024) (omega arith), le-ltb (65535 - n) (2 * (ram / 1024)) (omega arith)))
+    (λ g. rw (le-ltb n (3 + prg / 1024) (omega arith)) (lt-is-le (65535 - n) (2 * (ram / 1024)) ((65535 - n) / 2 * 1024 + 1024) ram (λ k. omega arith) (λ k. omega arith)))
+
+pub prg-run : (prg ram : ℕ) (w : PageWord) → prg ≤ 1048576 → ram ≤ 65536 → w .0 < 65536
+    → ltb ((w .0 + 2 * (ram / 1024)) % 65536) (3 + prg / 1024 + 2 * (ram / 1024)) ≡ prgShows prg ram (pageOf w)
+prg-run prg ram w hp hr hw = turned (w .0) (2 * (ram / 1024)) (3 + prg / 1024) hw (omega arith) (omega arith) ∙ prg-runs prg ram w hp hr hw
 
 -- The words of a CHR table; `low` is the number of pages that may be marked writable.
-chr-run : (chr low : ℕ) (asRam : Bool) (w : PageWord) → chr ≤ 1048576 → w .0 < 4294967296
+chr-run : (chr low : ℕ) (asRam : Bool) (w : PageWord) → chr ≤ 1048576 → w .0 < 65536
     → ((1027 ≤ w .0) → (w .0 < 2051) → leb (2051 - low) (w .0) ≡ whole (2050 - w .0) chr && asRam) → low ≤ 1024
     → ltb (w .0) 3 || (leb (2051 - low) (w .0) && ltb (w .0) (2055 + chr / 1024)) ≡ chrShows chr asRam (pageOf w)
 unfolding chrShowsAs
@@ -56,7 +68,7 @@ pub low-small : (b : Bool) {n : ℕ} → n ≤ 1024 → pick b n 0 ≤ 2051
 low-small true h = omega arith
 low-small false h = omega arith
 
-pub chr-runs : (chr : ℕ) (asRam : Bool) (w : PageWord) → chr ≤ 1048576 → w .0 < 4294967296
+pub chr-runs : (chr : ℕ) (asRam : Bool) (w : PageWord) → chr ≤ 1048576 → w .0 < 65536
     → ltb (w .0) 3 || (leb (2051 - pick asRam (chr / 1024) 0) (w .0) && ltb (w .0) (2055 + chr / 1024)) ≡ chrShows chr asRam (pageOf w)
 chr-runs chr true w hc hw =
     chr-run chr (chr / 1024) true w hc hw

@@ -37,8 +37,8 @@ pub by-runs : (P : Page → Type 0) (w : PageWord)
     → (3 ≤ w .0 → w .0 < 1027 → P (page PrgRom (w .0 - 3) false))
     → (1027 ≤ w .0 → w .0 < 2051 → P (page Chr (2050 - w .0) true))
     → (2051 ≤ w .0 → w .0 < 2055 → P (page CiRam ((w .0 - 2051) / 2) (eqb ((w .0 - 2051) % 2) 1)))
-    → (2055 ≤ w .0 → w .0 < 4294967168 → P (page Chr (w .0 - 2055) false))
-    → (4294967168 ≤ w .0 → P (page PrgRam ((4294967295 - w .0) / 2) (eqb ((4294967295 - w .0) % 2) 1)))
+    → (2055 ≤ w .0 → w .0 < 65408 → P (page Chr (w .0 - 2055) false))
+    → (65408 ≤ w .0 → P (page PrgRam ((65535 - w .0) / 2) (eqb ((65535 - w .0) % 2) 1)))
     → P (pageOf w)
 unfolding pageOf
 by-runs P w a b c d e f g =
@@ -52,7 +52,7 @@ by-runs P w a b c d e f g =
     (λ n4. rw n4
     (split (ltb (w .0) 2055) (λ t. rw t (e (ltb-false _ _ n4) (ltb-true _ _ t)))
     (λ n5. rw n5
-    (split (ltb (w .0) 4294967168) (λ t. rw t (f (ltb-false _ _ n5) (ltb-true _ _ t)))
+    (split (ltb (w .0) 65408) (λ t. rw t (f (ltb-false _ _ n5) (ltb-true _ _ t)))
     (λ n6. rw n6 (g (ltb-false _ _ n6)))))))))))))
 
 -- An even number and a flag: the flag is the lowest bit.
@@ -84,8 +84,8 @@ undone PrgRom i false h =
 undone PrgRam i w h =
     let k = ltb-true i 64 h in
     let f = flag-small w in
-    by-runs (λ (q : Page). q ≡ page PrgRam i w) (word (4294967295 - (2 * (i % 64) + flag w)))
-    (λ a. absurd (omega arith)) (λ a b. absurd (omega arith)) (λ a b. absurd (omega arith)) (λ a b. absurd (omega arith)) (λ a b. absurd (omega arith)) (λ a b. absurd (omega arith)) (λ a. same-page PrgRam (omega arith) (odd-flag (4294967295 - (4294967295 - (2 * (i % 64) + flag w))) (i % 64) w (omega arith)))
+    by-runs (λ (q : Page). q ≡ page PrgRam i w) (word (65535 - (2 * (i % 64) + flag w)))
+    (λ a. absurd (omega arith)) (λ a b. absurd (omega arith)) (λ a b. absurd (omega arith)) (λ a b. absurd (omega arith)) (λ a b. absurd (omega arith)) (λ a b. absurd (omega arith)) (λ a. same-page PrgRam (omega arith) (odd-flag (65535 - (65535 - (2 * (i % 64) + flag w))) (i % 64) w (omega arith)))
 undone Chr i true h =
     let k = ltb-true i 1024 h in
     by-runs (λ (q : Page). q ≡ page Chr i true) (word (2050 - i % 1024))

@@ -49,7 +49,7 @@ numberOf PrgRom i w = 3 + i % 1024
 numberOf Chr i true = 2050 - i % 1024
 numberOf CiRam i w = 2051 + 2 * (i % 2) + flag w
 numberOf Chr i false = 2055 + i % 1024
-numberOf PrgRam i w = 4294967295 - (2 * (i % 64) + flag w)
+numberOf PrgRam i w = 65535 - (2 * (i % 64) + flag w)
 
 abbrev pub wordOf : Page → PageWord
 wordOf p = word (numberOf (p .src) (p .index) (p .writable))
@@ -62,5 +62,5 @@ pageOf p =
     (pick (ltb (p .0) 1027) (page PrgRom (p .0 - 3) false)
     (pick (ltb (p .0) 2051) (page Chr (2050 - p .0) true)
     (pick (ltb (p .0) 2055) (page CiRam ((p .0 - 2051) / 2) (eqb ((p .0 - 2051) % 2) 1))
-    (pick (ltb (p .0) 4294967168) (page Chr (p .0 - 2055) false)
-    (page PrgRam ((4294967295 - p .0) / 2) (eqb ((4294967295 - p .0) % 2) 1)))))))
+    (pick (ltb (p .0) 65408) (page Chr (p .0 - 2055) false)
+    (page PrgRam ((65535 - p .0) / 2) (eqb ((65535 - p .0) % 2) 1)))))))

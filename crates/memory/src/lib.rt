@@ -30,8 +30,8 @@ pub struct Place {
     pub offset: usize,
 }
 
-// A page table's entry, after the Rust's `Page(u32)`; a CPU address; a PPU address. Three types, so that none is taken for another.
-pub struct PageWord(pub u32);
+// A page table's entry, after the Rust's `Page(u32)`, in 16 bits; a CPU address; a PPU address. Three types, so that none is taken for another.
+pub struct PageWord(pub u16);
 
 pub struct CpuAddr(pub u16);
 

@@ -6,28 +6,29 @@ ghost use Rattle.memory.specs.Tables.{prgShows, chrShows, prgTableOk, ch
 use crate::PageWord;
 
 // One run of words around blank: PRG-RAM below it, ExRAM and PRG-ROM above.
-fn prg_word_ok(prg_len: u32, ram_len: u32, word: PageWord) -> bool
+pub fn prg_word_ok(prg_len: u32, ram_len: u32, word: PageWord) -> bool
     requires { ⌜ («prg_len» ≤ 1048576) × («ram_len» ≤ 65536) ⌝ }
     ensures { λ r. ⌜ r ≡ prgShows «prg_len» «ram_len» (pageOf word) ⌝ }
 {
-    let n = word.0;
-    (n < 3 + prg_len / 1024) | (4294967295 - n < 2 * (ram_len / 1024))
+    let below = 2 * (ram_len / 1024) as u16;
+    let above = 3 + (prg_len / 1024) as u16;
+    std::num::wrapping_add_u16(word.0, below) < above + below
 }
 
 // A count, or none.
-fn if_so(so: bool, count: u32) -> u32
+fn if_so(so: bool, count: u16) -> u16
     ensures { λ r. ⌜ r ≡ pick so count 0 ⌝ }
 {
     if so { count } else { 0 }
 }
 
 // Blank and ExRAM, and one run of words around CIRAM: CHR marked writable below it, CHR not so marked above.
-fn chr_word_ok(chr_len: u32, chr_writable: bool, word: PageWord) -> bool
+pub fn chr_word_ok(chr_len: u32, chr_writable: bool, word: PageWord) -> bool
     requires { ⌜ «chr_len» ≤ 1048576 ⌝ }
     ensures { λ r. ⌜ r ≡ chrShows «chr_len» «chr_writable» (pageOf word) ⌝ }
 {
     let n = word.0;
-    let pages = chr_len / 1024;
+    let pages = (chr_len / 1024) as u16;
     let below = if_so(chr_writable, pages);
     (n < 3) | ((2051 - below <= n) & (n < 2055 + pages))
 }

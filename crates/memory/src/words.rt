@@ -12,7 +12,7 @@ use crate::Src;
 // The words in a row. What a PRG table may show is one run around blank, PRG-RAM counting down from the top; what a CHR table may
 // show beside blank and ExRAM is one run around CIRAM. So a table's range is tested by comparing each word with the runs' ends.
 //
-//                0   1  2    3 ..         .. 2050   2051 ..   2055 ..          .. 4294967295
+//                0   1  2    3 ..         .. 2050   2051 ..   2055 ..               .. 65535
 //            +-------+-------+----------------------+---------+---------------------+
 //            | blank | ExRAM | PRG-ROM ..    .. CHR | CIRAM   | CHR ..   .. PRG-RAM |
 //            +-------+-------+----------------------+---------+---------------------+
@@ -20,19 +20,19 @@ use crate::Src;
 pub fn word_of(src: Src, index: u32, writable: bool) -> PageWord
     ensures { λ r. ⌜ r ≡ wordOf (page src index writable) ⌝ }
 {
-    let w = writable as u32;
+    let w = writable as u16;
     match src {
         Src::Blank => PageWord(0),
-        Src::PrgRom => PageWord(3 + index % 1024),
-        Src::PrgRam => PageWord(4294967295 - (2 * (index % 64) + w)),
+        Src::PrgRom => PageWord(3 + (index % 1024) as u16),
+        Src::PrgRam => PageWord(65535 - (2 * (index % 64) as u16 + w)),
         Src::Chr => {
             if writable {
-                PageWord(2050 - index % 1024)
+                PageWord(2050 - (index % 1024) as u16)
             } else {
-                PageWord(2055 + index % 1024)
+                PageWord(2055 + (index % 1024) as u16)
             }
         }
-        Src::CiRam => PageWord(2051 + 2 * (index % 2) + w),
+        Src::CiRam => PageWord(2051 + 2 * (index % 2) as u16 + w),
         Src::ExRam => PageWord(1 + w),
     }
 }
@@ -58,35 +58,35 @@ pub fn page_of(word: PageWord) -> Page
     if n < 1027 {
         return Page {
             src: Src::PrgRom,
-            index: n - 3,
+            index: (n - 3) as u32,
             writable: false,
         };
     }
     if n < 2051 {
         return Page {
             src: Src::Chr,
-            index: 2050 - n,
+            index: (2050 - n) as u32,
             writable: true,
         };
     }
     if n < 2055 {
         return Page {
             src: Src::CiRam,
-            index: (n - 2051) / 2,
+            index: ((n - 2051) / 2) as u32,
             writable: (n - 2051) % 2 == 1,
         };
     }
-    if n < 4294967168 {
+    if n < 65408 {
         return Page {
             src: Src::Chr,
-            index: n - 2055,
+            index: (n - 2055) as u32,
             writable: false,
         };
     }
     Page {
         src: Src::PrgRam,
-        index: (4294967295 - n) / 2,
-        writable: (4294967295 - n) % 2 == 1,
+        index: ((65535 - n) / 2) as u32,
+        writable: (65535 - n) % 2 == 1,
     }
 }
 

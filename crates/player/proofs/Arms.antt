@@ -36,8 +36,8 @@ use Rattle.promises.proofs.Refusals.{answer-is-given}
 use Rattle.player.specs.declared.Ending.the-variants.{Stopped}
 use Rattle.player.specs.Logs.{logged}
 use Rattle.player.specs.Replay.{Left, ended}
-use Rattle.player.specs.Sides.{chosenAt}
-use Rattle.player.proofs.Made
+use Rattle.arms.specs.Sides.{chosenAt}
+use Rattle.arms.proofs.Made
 use Rattle.player.proofs.Steps.{Going, stops, goes}
 
 -- Two ways that come to the same.

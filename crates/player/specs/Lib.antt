@@ -1,4 +1,3 @@
 pub mod Logs
-pub mod Sides
 pub mod Replay
 pub mod Promise

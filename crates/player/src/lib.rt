@@ -8,10 +8,8 @@ use answers::Refusal;
 use state::State;
 use state::gate::Gate;
 
-pub mod cpu_side;
 pub mod logs;
 pub mod plays;
-pub mod ppu_side;
 
 // "answers with that record's place, or with the record count"
 pub enum Ending {

@@ -24,8 +24,8 @@ pub fn put_state(
     wide: &mut [u32; 6],
     prg_banks: &mut [u8; 5],
     chr_banks: &mut [u8; 16],
-    prg_pages: &mut [u32; 64],
-    chr_pages: &mut [u32; 16],
+    prg_pages: &mut [u16; 64],
+    chr_pages: &mut [u16; 16],
 )
     ensures { λ _. ⌜ wordsAt (now (bytes .exit)) (now (halves .exit)) (now (wide .exit)) (now («prg_banks» .exit)) (now («chr_banks» .exit)) (now («prg_pages» .exit)) (now («chr_pages» .exit)) ≡ wordsOf s ⌝ }
 {

@@ -2,68 +2,45 @@
 ghost use mathlib.Core.Path.{_≡_};
 ghost use Prim.Native.Nat.{_≤_};
 ghost use lib.ListN.{length};
-ghost use Rattle.memory.specs.Tables.{prgShows, chrShows, prgTableOk, chrTableOk};
-ghost use Rattle.memory.specs.Words.{pick, word, pageOf};
+ghost use Rattle.memory.specs.Tables.{prgTableOk, chrTableOk};
 ghost use Rattle.state.specs.Ranges.{inRange};
 ghost use Rattle.words.specs.Words.{pagesOf, stateOf, wordsAt};
 use crate::read;
+use memory::PageWord;
 
 // No code: an array that is lent has its length, which its type says and a proof wants to hear.
-fn sixty_four(table: [u32; 64])
+fn sixty_four(table: [u16; 64])
     ensures { λ _. ⌜ length table ≡ 64 ⌝ }
 {}
 
-fn sixteen(table: [u32; 16])
+fn sixteen(table: [u16; 16])
     ensures { λ _. ⌜ length table ≡ 16 ⌝ }
 {}
 
-// The words that a PRG table may hold are one run around blank.
-fn prg_number_ok(prg_len: u32, ram_len: u32, n: u32) -> bool
-    requires { ⌜ («prg_len» ≤ 1048576) × («ram_len» ≤ 65536) ⌝ }
-    ensures { λ r. ⌜ r ≡ prgShows «prg_len» «ram_len» (pageOf (word n)) ⌝ }
-{
-    (n < 3 + prg_len / 1024) | (4294967295 - n < 2 * (ram_len / 1024))
-}
-
-// A count, or none.
-fn if_so(so: bool, count: u32) -> u32
-    ensures { λ r. ⌜ r ≡ pick so count 0 ⌝ }
-{
-    if so { count } else { 0 }
-}
-
-// Blank and ExRAM, and one run around CIRAM.
-fn chr_number_ok(chr_len: u32, chr_writable: bool, n: u32) -> bool
-    requires { ⌜ «chr_len» ≤ 1048576 ⌝ }
-    ensures { λ r. ⌜ r ≡ chrShows «chr_len» «chr_writable» (pageOf (word n)) ⌝ }
-{
-    let pages = chr_len / 1024;
-    let below = if_so(chr_writable, pages);
-    (n < 3) | ((2051 - below <= n) & (n < 2055 + pages))
-}
-
-pub fn prg_numbers_ok(prg_len: u32, ram_len: u32, numbers: &[u32; 64]) -> bool
+pub fn prg_numbers_ok(prg_len: u32, ram_len: u32, numbers: &[u16; 64]) -> bool
     requires { ⌜ («prg_len» ≤ 1048576) × ((«ram_len» ≤ 65536) × (length (now numbers) ≡ 64)) ⌝ }
     ensures { λ r. ⌜ r ≡ prgTableOk «prg_len» «ram_len» (pagesOf (now (numbers .entry))) ⌝ }
 {
     let mut ok = true;
     let mut i: usize = 0;
     while i < 64 {
-        let one = prg_number_ok(prg_len, ram_len, numbers[i]);
+        let n = numbers[i];
+        let one = memory::tables::prg_word_ok(prg_len, ram_len, PageWord(n));
         ok = ok & one;
         i += 1;
     }
     ok
 }
 
-pub fn chr_numbers_ok(chr_len: u32, chr_writable: bool, numbers: &[u32; 16]) -> bool
+pub fn chr_numbers_ok(chr_len: u32, chr_writable: bool, numbers: &[u16; 16]) -> bool
     requires { ⌜ («chr_len» ≤ 1048576) × (length (now numbers) ≡ 16) ⌝ }
     ensures { λ r. ⌜ r ≡ chrTableOk «chr_len» «chr_writable» (pagesOf (now (numbers .entry))) ⌝ }
 {
     let mut ok = true;
     let mut i: usize = 0;
     while i < 16 {
-        let one = chr_number_ok(chr_len, chr_writable, numbers[i]);
+        let n = numbers[i];
+        let one = memory::tables::chr_word_ok(chr_len, chr_writable, PageWord(n));
         ok = ok & one;
         i += 1;
     }
@@ -76,8 +53,8 @@ pub fn in_range(
     wide: &[u32; 6],
     prg_banks: &[u8; 5],
     chr_banks: &[u8; 16],
-    prg_pages: &[u32; 64],
-    chr_pages: &[u32; 16],
+    prg_pages: &[u16; 64],
+    chr_pages: &[u16; 16],
 ) -> bool
     ensures { λ r. ⌜ r ≡ inRange (stateOf (wordsAt (now (bytes .entry)) (now (halves .entry)) (now (wide .entry)) (now («prg_banks» .entry)) (now («chr_banks» .entry)) (now («prg_pages» .entry)) (now («chr_pages» .entry)))) ⌝ }
 {

@@ -131,8 +131,8 @@ pub fn state_of(
     wide: &[u32; 6],
     prg_banks: &[u8; 5],
     chr_banks: &[u8; 16],
-    prg_pages: &[u32; 64],
-    chr_pages: &[u32; 16],
+    prg_pages: &[u16; 64],
+    chr_pages: &[u16; 16],
 ) -> State
     ensures { λ r. ⌜ r ≡ stateOf (wordsAt (now (bytes .entry)) (now (halves .entry)) (now (wide .entry)) (now («prg_banks» .entry)) (now («chr_banks» .entry)) (now («prg_pages» .entry)) (now («chr_pages» .entry))) ⌝ }
 {

@@ -3,7 +3,7 @@ ghost use mathlib.Core.Path.{_≡_};
 ghost use Rattle.words.specs.Words.{pagesOf, numbersOf};
 use memory::PageWord;
 
-pub fn prg_table(numbers: [u32; 64]) -> [PageWord; 64]
+pub fn prg_table(numbers: [u16; 64]) -> [PageWord; 64]
     ensures { λ r. ⌜ r ≡ pagesOf numbers ⌝ }
 {
     let mut pages = [PageWord(0); 64];
@@ -15,7 +15,7 @@ pub fn prg_table(numbers: [u32; 64]) -> [PageWord; 64]
     pages
 }
 
-pub fn chr_table(numbers: [u32; 16]) -> [PageWord; 16]
+pub fn chr_table(numbers: [u16; 16]) -> [PageWord; 16]
     ensures { λ r. ⌜ r ≡ pagesOf numbers ⌝ }
 {
     let mut pages = [PageWord(0); 16];
@@ -27,10 +27,10 @@ pub fn chr_table(numbers: [u32; 16]) -> [PageWord; 16]
     pages
 }
 
-pub fn prg_numbers(pages: [PageWord; 64]) -> [u32; 64]
+pub fn prg_numbers(pages: [PageWord; 64]) -> [u16; 64]
     ensures { λ r. ⌜ r ≡ numbersOf pages ⌝ }
 {
-    let mut numbers = [0u32; 64];
+    let mut numbers = [0u16; 64];
     let mut i: usize = 0;
     while i < 64 {
         let w = pages[i];
@@ -40,10 +40,10 @@ pub fn prg_numbers(pages: [PageWord; 64]) -> [u32; 64]
     numbers
 }
 
-pub fn chr_numbers(pages: [PageWord; 16]) -> [u32; 16]
+pub fn chr_numbers(pages: [PageWord; 16]) -> [u16; 16]
     ensures { λ r. ⌜ r ≡ numbersOf pages ⌝ }
 {
-    let mut numbers = [0u32; 16];
+    let mut numbers = [0u16; 16];
     let mut i: usize = 0;
     while i < 16 {
         let w = pages[i];

@@ -11,8 +11,8 @@ mod ffi;
 #[derive(Clone, Debug, PartialEq, Eq)]
 pub struct State {
     pub wide: [u32; 6],
-    pub prg_pages: [u32; 64],
-    pub chr_pages: [u32; 16],
+    pub prg_pages: [u16; 64],
+    pub chr_pages: [u16; 16],
     pub halves: [u16; 5],
     pub bytes: [u8; 33],
     pub prg_banks: [u8; 5],

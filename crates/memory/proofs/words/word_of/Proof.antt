@@ -15,47 +15,62 @@ enum-told c = search needs
 enum-told-2 : tie.Need-enum-told-2
 enum-told-2 c = search needs
 
-add-t7 : tie.Need-add-t7
-add-t7 c = search needs
+cast-t7 : tie.Need-cast-t7
+cast-t7 c = search needs
+
+add-t8 : tie.Need-add-t8
+add-t8 c = search needs
 
 enum-told-3 : tie.Need-enum-told-3
 enum-told-3 c = search needs
 
-mul-t9 : tie.Need-mul-t9
-mul-t9 c = search needs
+cast-t10 : tie.Need-cast-t10
+cast-t10 c = search needs
 
-add-t10 : tie.Need-add-t10
-add-t10 c = omega (arith, bit-small (c .before .before .args .writable))
+mul-t11 : tie.Need-mul-t11
+mul-t11 c = search needs
 
-sub-t11 : tie.Need-sub-t11
-sub-t11 c = omega (arith, bit-small (c .before .before .args .writable))
+add-t12 : tie.Need-add-t12
+add-t12 c = omega (arith, bit-small (c .before .before .args .writable))
+
+sub-t13 : tie.Need-sub-t13
+sub-t13 c = omega (arith, bit-small (c .before .before .args .writable))
 
 enum-told-4 : tie.Need-enum-told-4
 enum-told-4 c = search needs
 
-sub-t15 : tie.Need-sub-t15
-sub-t15 c = search needs
+cast-t17 : tie.Need-cast-t17
+cast-t17 c = search needs
 
-add-t17 : tie.Need-add-t17
-add-t17 c = search needs
+sub-t18 : tie.Need-sub-t18
+sub-t18 c = search needs
+
+cast-t20 : tie.Need-cast-t20
+cast-t20 c = search needs
+
+add-t21 : tie.Need-add-t21
+add-t21 c = search needs
 
 enum-told-5 : tie.Need-enum-told-5
 enum-told-5 c = search needs
 
-mul-t19 : tie.Need-mul-t19
-mul-t19 c = search needs
+cast-t23 : tie.Need-cast-t23
+cast-t23 c = search needs
 
-add-t20 : tie.Need-add-t20
-add-t20 c = search needs
+mul-t24 : tie.Need-mul-t24
+mul-t24 c = search needs
 
-add-t21 : tie.Need-add-t21
-add-t21 c = omega (arith, bit-small (c .before .before .args .writable))
+add-t25 : tie.Need-add-t25
+add-t25 c = search needs
+
+add-t26 : tie.Need-add-t26
+add-t26 c = omega (arith, bit-small (c .before .before .args .writable))
 
 enum-told-6 : tie.Need-enum-told-6
 enum-told-6 c = search needs
 
-add-t22 : tie.Need-add-t22
-add-t22 c = omega (arith, bit-small (c .before .before .args .writable))
+add-t27 : tie.Need-add-t27
+add-t27 c = omega (arith, bit-small (c .before .before .args .writable))
 
 returns : tie.Need-returns
 unfolding numberOf
@@ -92,20 +107,25 @@ word-of-spec =
     cast-w
     enum-told
     enum-told-2
-    add-t7
+    cast-t7
+    add-t8
     enum-told-3
-    mul-t9
-    add-t10
-    sub-t11
+    cast-t10
+    mul-t11
+    add-t12
+    sub-t13
     enum-told-4
-    sub-t15
-    add-t17
-    enum-told-5
-    mul-t19
-    add-t20
+    cast-t17
+    sub-t18
+    cast-t20
     add-t21
+    enum-told-5
+    cast-t23
+    mul-t24
+    add-t25
+    add-t26
     enum-told-6
-    add-t22
+    add-t27
     returns
     returns-2
     returns-3

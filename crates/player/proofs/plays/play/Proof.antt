@@ -1,10 +1,10 @@
-use Rattle.player.proofs.Made.{pages-changed, pages-same}
+use Rattle.arms.proofs.Made.{pages-changed, pages-same}
 use Rattle.player.proofs.Arms.{both-ways}
 use Rattle.state.specs.With.{withChrPages}
-use Rattle.player.proofs.Idle.{write-idle, write-prg, write-rest-as}
+use Rattle.arms.proofs.Idle.{write-idle, write-prg, write-rest-as}
 use Rattle.player.proofs.Steps.{Kept, kept, onto, begins, ends, unreadable}
 use Rattle.trace.proofs.RecordLaws.{record-advances}
-use Rattle.player.proofs.Idle.{write-idle, write-prg}
+use Rattle.arms.proofs.Idle.{write-idle, write-prg}
 use Rattle.board_ppu.specs.Peeks.{chrAnswer}
 use Rattle.cpu.specs.Reads.{cpuAnswer}
 use Rattle.player.proofs.Steps.{Kept, kept, begins, ends, unreadable}

@@ -9,9 +9,6 @@ use Rattle.words.proofs.MappedLaws.{numbers-next, numbers-last}
 use Rattle.memory.proofs.TableLaws.{Tested, test-first}
 use Rattle.words.proofs.ranges.chr_numbers_ok.Statement.{statement}
 use Rattle.words.proofs.ranges.chr_numbers_ok.Tie as tie
-use Rattle.words.proofs.ranges.chr_numbers_ok.Reads as reads
-use Rattle.words.proofs.ranges.chr_numbers_ok.Lts as lts
-use Rattle.words.proofs.ranges.chr_number_ok.Reads as chr-number-ok-reads
 
 abbrev Inv-loop : tie.InvT-loop
 Inv-loop chr-len chr-writable numbers ok₀ i₀ ok i = Tested (λ (w : PageWord). chrShows chr-len chr-writable (pageOf w)) (pagesOf numbers) ok i
@@ -19,35 +16,27 @@ Inv-loop chr-len chr-writable numbers ok₀ i₀ ok i = Tested (λ (w : PageWord
 abbrev μ-loop : tie.MeasureT-loop
 μ-loop chr-len chr-writable numbers ok₀ i₀ ok i = 16 - i
 
--- src/ranges.rt:56:5
 loop-holds : tie.Need-loop-holds Inv-loop μ-loop
 loop-holds c = test-first _ _
 
--- src/ranges.rt:57:56
-mul-chr-number-ok : tie.Need-mul-chr-number-ok Inv-loop μ-loop
-mul-chr-number-ok c = search needs
+mul-n : tie.Need-mul-n Inv-loop μ-loop
+mul-n c = search needs
 
--- src/ranges.rt:57:56
-element-copy-out-chr-number-ok : tie.Need-element-copy-out-chr-number-ok Inv-loop μ-loop
-element-copy-out-chr-number-ok c = search needs
+element-copy-out-n : tie.Need-element-copy-out-n Inv-loop μ-loop
+element-copy-out-n c = search needs
 
--- src/ranges.rt:57:13
-chr-number-ok-requires : tie.Need-chr-number-ok-requires Inv-loop μ-loop
-chr-number-ok-requires c κs = search needs
+chr-word-ok-requires : tie.Need-chr-word-ok-requires Inv-loop μ-loop
+chr-word-ok-requires c κs = search needs
 
--- src/ranges.rt:59:9
 add-i : tie.Need-add-i Inv-loop μ-loop
 add-i c = search needs
 
--- src/ranges.rt:56:5
 loop-less : tie.Need-loop-less Inv-loop μ-loop
 loop-less c = search needs
 
--- src/ranges.rt:56:5
 loop-again : tie.Need-loop-again Inv-loop μ-loop
-loop-again c = numbers-next _ (c .before .before .before .before .args .numbers .now) _ _ 16 _ (c .before .before .before .loop .inv) (c .before .before .loop-test .taken) (search needs) (c .chr-number-ok .ensures)
+loop-again c = numbers-next _ (c .before .before .before .before .args .numbers .now) _ _ 16 _ (c .before .before .before .loop .inv) (c .before .before .loop-test .taken) (search needs) (c .chr-word-ok .ensures)
 
--- src/ranges.rt:50:1
 returns : tie.Need-returns Inv-loop μ-loop
 returns c = numbers-last _ (c .before .before .args .numbers .now) _ _ 16 (c .before .loop .inv) (c .loop-test .left) (search needs)
 
@@ -58,9 +47,9 @@ chr-numbers-ok-spec =
     Inv-loop
     μ-loop
     loop-holds
-    mul-chr-number-ok
-    element-copy-out-chr-number-ok
-    chr-number-ok-requires
+    mul-n
+    element-copy-out-n
+    chr-word-ok-requires
     add-i
     loop-less
     loop-again

@@ -1,7 +1,7 @@
 -- ExRAM's own way, then the page.
 use borrow.Author.Needs.{needs}
-use Rattle.player.proofs.cpu_side.store.Statement.{statement}
-use Rattle.player.proofs.cpu_side.store.Tie as tie
+use Rattle.arms.proofs.cpu_side.store.Statement.{statement}
+use Rattle.arms.proofs.cpu_side.store.Tie as tie
 
 latch-requires : tie.Need-latch-requires
 latch-requires c κs = search needs

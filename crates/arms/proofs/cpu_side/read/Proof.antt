@@ -1,9 +1,9 @@
 -- A register, or outside their addresses the page (`read-idle`).
-use Rattle.player.proofs.Idle.{read-idle}
+use Rattle.arms.proofs.Idle.{read-idle}
 use mathlib.Core.Path.{sym, _∙_}
 use borrow.Author.Needs.{needs}
-use Rattle.player.proofs.cpu_side.read.Statement.{statement}
-use Rattle.player.proofs.cpu_side.read.Tie as tie
+use Rattle.arms.proofs.cpu_side.read.Statement.{statement}
+use Rattle.arms.proofs.cpu_side.read.Tie as tie
 
 page-answer-requires : tie.Need-page-answer-requires
 page-answer-requires c κs = search needs

@@ -27,7 +27,7 @@ use Rattle.cpu.specs.Chosen.{ppuAfter}
 use Rattle.cpu.specs.Groups.{within, splitAfter, irqAfter, prgBanksAfter, chrBanksAfter}
 use Rattle.cpu.specs.Reads.{registerRead}
 use Rattle.cpu.specs.Writes.{mapsPrg, prgPagesAfter, chrPagesAfter, registerWritten, prgWordAt}
-use Rattle.player.specs.Sides.{exramWord}
+use Rattle.arms.specs.Sides.{exramWord}
 
 -- An address apart from a range is apart from what lies in it.
 pub apart-eqb : (lo hi n a : ℕ) → within lo hi n ≡ true → within lo hi a ≡ false → eqb a n ≡ false

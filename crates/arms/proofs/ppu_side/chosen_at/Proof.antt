@@ -1,9 +1,9 @@
 -- By the address.
-use Rattle.player.specs.Sides.{chosenAt}
+use Rattle.arms.specs.Sides.{chosenAt}
 use borrow.Author.Tests.{lt-ltb, le-ltb}
 use borrow.Author.Needs.{needs}
-use Rattle.player.proofs.ppu_side.chosen_at.Statement.{statement}
-use Rattle.player.proofs.ppu_side.chosen_at.Tie as tie
+use Rattle.arms.proofs.ppu_side.chosen_at.Statement.{statement}
+use Rattle.arms.proofs.ppu_side.chosen_at.Tie as tie
 
 choose-requires : tie.Need-choose-requires
 choose-requires c κs = search needs

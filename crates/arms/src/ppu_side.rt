@@ -1,4 +1,4 @@
-// What a PPU fetch does to the groups that it touches, for the loop of `plays`.
+// What a PPU fetch does to the groups that it touches, for the loop of replay and for the host.
 ghost use mathlib.Core.Path.{_≡_};
 ghost use mathlib.Core.Bool.{true, false};
 ghost use lib.Dec.{ltb};
@@ -11,7 +11,7 @@ ghost use Rattle.scanline.specs.Steps.{seenAt};
 ghost use Rattle.scanline.specs.Tiles.{tilesOk};
 ghost use Rattle.ppu.specs.Fetches.{ppuSeen, splitSeen};
 ghost use Rattle.ppu.specs.Served.{countedServed, patternServed};
-ghost use Rattle.player.specs.Sides.{chosenAt};
+ghost use Rattle.arms.specs.Sides.{chosenAt};
 use answers::Answer;
 use memory::PageWord;
 use registers::Regs;

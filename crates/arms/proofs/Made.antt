@@ -26,8 +26,8 @@ use Rattle.board_ppu.specs.Fetch.{countedIrq, countedPpu, countedSplit, counted
 use Rattle.board_ppu.specs.Peeks.{chrWordAt, chrAnswer, ppuWrite}
 use Rattle.promises.proofs.Gates.{in-range-of}
 use Rattle.promises.proofs.Fetching.{split-free}
-use Rattle.player.specs.Sides.{chosenAt}
-use Rattle.player.proofs.Idle.{word-kept}
+use Rattle.arms.specs.Sides.{chosenAt}
+use Rattle.arms.proofs.Idle.{word-kept}
 
 -- A set that is kept is no change.
 same-set : (b : Bool) → setChanged b b ≡ false

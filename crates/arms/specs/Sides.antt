@@ -1,4 +1,4 @@
--- For the loop's steps: what a call leaves in one group, over all addresses.
+-- What a call leaves in one group, over all addresses.
 use Prim.Native.Nat.{ℕ}
 use mathlib.Core.Bool.{Bool}
 use lib.Dec.{eqb, ltb}

@@ -1,9 +1,9 @@
 -- By the address.
-use Rattle.player.specs.Sides.{exramWord}
+use Rattle.arms.specs.Sides.{exramWord}
 use borrow.Author.Tests.{eq-eqb, ne-eqb}
 use borrow.Author.Needs.{needs}
-use Rattle.player.proofs.cpu_side.exram_word.Statement.{statement}
-use Rattle.player.proofs.cpu_side.exram_word.Tie as tie
+use Rattle.arms.proofs.cpu_side.exram_word.Statement.{statement}
+use Rattle.arms.proofs.cpu_side.exram_word.Tie as tie
 
 exram-page-requires : tie.Need-exram-page-requires
 exram-page-requires c κs = search needs

@@ -1,4 +1,4 @@
-// What a CPU read and a CPU write do to the groups that they touch, for the loop of `plays`.
+// What a CPU read and a CPU write do to the groups that they touch, for the loop of replay and for the host.
 ghost use mathlib.Core.Path.{_≡_};
 ghost use mathlib.Core.List.{List};
 ghost use Prim.Native.Nat.{ℕ};
@@ -6,7 +6,7 @@ ghost use Rattle.memory.specs.Bytes.{memOf, pageStored};
 ghost use Rattle.memory.specs.Words.{pick, pageOf};
 ghost use Rattle.cpu.specs.Reads.{pageAnswer, registerRead};
 ghost use Rattle.cpu.specs.Writes.{latched};
-ghost use Rattle.player.specs.Sides.{exramWord};
+ghost use Rattle.arms.specs.Sides.{exramWord};
 use answers::Answer;
 use memory::PageWord;
 use registers::Regs;

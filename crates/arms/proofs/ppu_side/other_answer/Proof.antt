@@ -1,8 +1,8 @@
 -- By the address.
 use borrow.Author.Tests.{lt-ltb, le-ltb}
 use borrow.Author.Needs.{needs}
-use Rattle.player.proofs.ppu_side.other_answer.Statement.{statement}
-use Rattle.player.proofs.ppu_side.other_answer.Tie as tie
+use Rattle.arms.proofs.ppu_side.other_answer.Statement.{statement}
+use Rattle.arms.proofs.ppu_side.other_answer.Tie as tie
 
 page-answer-requires : tie.Need-page-answer-requires
 page-answer-requires c κs = search needs

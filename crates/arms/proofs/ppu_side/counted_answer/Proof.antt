@@ -1,7 +1,7 @@
 -- The page, and what is served in its place.
 use borrow.Author.Needs.{needs}
-use Rattle.player.proofs.ppu_side.counted_answer.Statement.{statement}
-use Rattle.player.proofs.ppu_side.counted_answer.Tie as tie
+use Rattle.arms.proofs.ppu_side.counted_answer.Statement.{statement}
+use Rattle.arms.proofs.ppu_side.counted_answer.Tie as tie
 
 page-answer-requires : tie.Need-page-answer-requires
 page-answer-requires c κs = search needs

@@ -3,8 +3,8 @@ use Rattle.scanline.specs.Steps.{seenAt}
 use Rattle.scanline.proofs.RangeLaws.{ranges-kept}
 use Rattle.ppu.specs.Fetches.{ppuSeen}
 use borrow.Author.Needs.{needs}
-use Rattle.player.proofs.ppu_side.count_fetch.Statement.{statement}
-use Rattle.player.proofs.ppu_side.count_fetch.Tie as tie
+use Rattle.arms.proofs.ppu_side.count_fetch.Statement.{statement}
+use Rattle.arms.proofs.ppu_side.count_fetch.Tie as tie
 
 seen-requires : tie.Need-seen-requires
 seen-requires c κs = ranges-kept .line-fits _ (c .pre .0)
