@@ -1,17 +1,18 @@
 -- Calls over lent words where they lie: what they leave is what the board's call on the state leaves.
 use Prim.Native.Nat.{ℕ, _≤_}
-use mathlib.Core.Bool.{Bool, true, false, not}
+use mathlib.Core.Bool.{Bool, true, false, not, _&&_}
 use mathlib.Core.List.{List}
-use mathlib.Core.Path.{_≡_, refl, sym, _∙_}
-use borrow.Author.Tests.{not-false}
+use mathlib.Core.Path.{_≡_, refl, sym, ap, _∙_}
+use borrow.Author.Tests.{not-false, not-true}
 use lib.ListN.{length}
 use Rattle.memory.specs.declared.PageWord.{PageWord}
 use Rattle.memory.specs.Bytes.{Mem}
 use Rattle.memory.specs.Words.{pageOf}
+use Rattle.memory.proofs.Tests.{split}
 use Rattle.answers.specs.declared.Answer.{Answer}
 use Rattle.answers.specs.declared.Answer.the-variants.{Nothing, Refused}
 use Rattle.answers.specs.declared.Refusal.{Refusal}
-use Rattle.answers.specs.declared.Refusal.the-variants.{Audio, State as StateBroken}
+use Rattle.answers.specs.declared.Refusal.the-variants.{State as StateBroken}
 use Rattle.registers.specs.declared.Regs.{Regs}
 use Rattle.scanline.specs.declared.Detector.{Detector}
 use Rattle.scanline.specs.Steps.{clocked}
@@ -30,54 +31,94 @@ use Rattle.board.specs.declared.Outcome.{Outcome}
 use Rattle.board.specs.CpuSide.{cpuRead}
 use Rattle.board.specs.Outcomes.{outcome, refused}
 use Rattle.board.specs.Whole.{clockCall}
+use Rattle.arms.proofs.Made.{read-made}
+use Rattle.words.specs.Gate.{whole, gateOn, gateMemOn}
 use Rattle.words.specs.Put.{irqBytes, irqHalves}
-use Rattle.words.specs.Words.{Words, wordsAt, good, stateOf}
+use Rattle.words.specs.Words.{Words, wordsAt, good, stateOf, wordsOf}
+use Rattle.words.proofs.GateLaws.{bare, whole-bare, gate-bare, whole-good, whole-range, open-good, open-gate}
 use Rattle.words.proofs.PutLaws.{Sound, irq-put}
 use Rattle.words.proofs.RoundLaws.{words-back}
 use Rattle.host.specs.Told.{toldPlain, toldWith}
-use Rattle.host.specs.Hosted.{leftOf, onWords}
-use Rattle.host.proofs.HostLaws.{words-left}
+use Rattle.host.specs.Hosted.{noState, leftOf, onWords}
+use Rattle.host.proofs.HostLaws.{words-stay, words-left}
 
-pub sound : (w : Words) (g : Bool) → (length (w .bytes) ≡ 33) × ((length (w .halves) ≡ 5) × (length (w .wide) ≡ 6)) → g ≡ good (w .bytes) → not g ≡ false → Sound w
-sound w g l e t = record { bytes = l .0; halves = l .1 .0; wide = l .1 .1; good = sym e ∙ not-false g t }
+-- The lengths of the lent arrays.
+abbrev pub Sized : Words → Type 0
+Sized w = (length (w .bytes) ≡ 33) × ((length (w .halves) ≡ 5) × (length (w .wide) ≡ 6))
+
+pub sound : (w : Words) → Sized w → good (w .bytes) ≡ true → Sound w
+sound w l g = record { bytes = l .0; halves = l .1 .0; wide = l .1 .1; good = g }
+
+shut-same : {a b : Refusal} → Shut a ≡ Shut b → a ≡ b
+shut-same e = cc
 
 -- A refusal leaves the words.
-pub refused-left : (w : Words) (f : State → Outcome) (g : Bool) (r : Refusal) (n : ℕ)
-    → Sound w → g ≡ good (w .bytes) → not g ≡ false → f (stateOf w) ≡ refused (stateOf w) r → n ≡ toldPlain (Refused r) → leftOf n w ≡ onWords w f
-refused-left w f g r n o eg tg ef en =
-    words-left w w f g (stateOf w) (refused (stateOf w) r) n eg tg refl (sym ef) (sym (words-back w (o .bytes) (o .halves) (o .wide) (o .good))) en
+pub refused-left : (w : Words) (f : State → Outcome) (r : Refusal) (n : ℕ) → Sound w → f (stateOf w) ≡ refused (stateOf w) r → n ≡ toldPlain (Refused r) → leftOf n w ≡ onWords w f
+refused-left w f r n o ef en =
+    words-left w w f true (stateOf w) (refused (stateOf w) r) n (sym (o .good)) refl refl (sym ef) (sym (words-back w (o .bytes) (o .halves) (o .wide) (o .good))) en
 
--- A call that changes the detector alone.
-pub irq-left : (w : Words) (f : State → Outcome) (g : Bool) (a : Answer) (d : Detector) (b h : List ℕ) (n : ℕ)
-    → Sound w → g ≡ good (w .bytes) → not g ≡ false → f (stateOf w) ≡ outcome a (withIrq (stateOf w) d) → b ≡ irqBytes (w .bytes) d → h ≡ irqHalves (w .halves) d → n ≡ toldWith a d
+-- A shut gate, of a call that a shut gate refuses.
+pub shut-left : (w : Words) (m : Mem) (f : State → Outcome) (k : Gate) (r : Refusal) (n : ℕ)
+    → Sized w → k ≡ gateMemOn (bare w) m → k ≡ Shut r → (gateMem (stateOf w) m ≡ Shut r → f (stateOf w) ≡ refused (stateOf w) r) → n ≡ toldPlain (Refused r) → leftOf n w ≡ onWords w f
+unfolding gateOn
+shut-left w m f k r n l e t ef en =
+    let h : gateMemOn w m ≡ Shut r = sym (gate-bare w _ _ _ _ _) ∙ (sym e ∙ t) in
+    split (good (w .bytes))
+    (λ g. refused-left w f r n (sound w l g) (ef (rw g at h)) en)
+    (λ b. let same : r ≡ StateBroken = shut-same (sym (rw b at h)) in ap (λ (x : ℕ). leftOf x w) (en ∙ ap (λ (x : Refusal). toldPlain (Refused x)) same) ∙ words-stay w f false (sym b) refl)
+
+-- A call that is taken, by the words that it leaves.
+pub taken-left : (w v : Words) (f : State → Outcome) (a : Answer) (t : State) (n : ℕ) → Sound w → f (stateOf w) ≡ outcome a t → v ≡ wordsOf t → n ≡ toldWith a (t .irq) → leftOf n v ≡ onWords w f
+taken-left w v f a t n o ef ev en = words-left w v f true (stateOf w) (outcome a t) n (sym (o .good)) refl refl (sym ef) ev en
+
+-- Where only the detector changes.
+pub irq-left : (w : Words) (f : State → Outcome) (a : Answer) (d : Detector) (b h : List ℕ) (n : ℕ)
+    → Sound w → f (stateOf w) ≡ outcome a (withIrq (stateOf w) d) → b ≡ irqBytes (w .bytes) d → h ≡ irqHalves (w .halves) d → n ≡ toldWith a d
     → leftOf n (wordsAt b h (w .wide) (w .prgBanks) (w .chrBanks) (w .prgPages) (w .chrPages)) ≡ onWords w f
-irq-left w f g a d b h n o eg tg ef eb eh en =
-    words-left w _ f g (stateOf w) (outcome a (withIrq (stateOf w) d)) n eg tg refl (sym ef) (rw (eb, eh) (irq-put w d o)) en
+irq-left w f a d b h n o ef eb eh en = taken-left w _ f a (withIrq (stateOf w) d) n o ef (rw (eb, eh) (irq-put w d o)) en
+
+-- A call on words that are no state in range, which such a call refuses with 5.
+pub not-whole-left : (w : Words) (f : State → Outcome) (o : Bool) → Sized w → o ≡ whole (bare w) → not o ≡ true → (inRange (stateOf w) ≡ false → f (stateOf w) ≡ refused (stateOf w) StateBroken) → leftOf noState w ≡ onWords w f
+unfolding whole
+not-whole-left w f o l e t ef =
+    let h : good (w .bytes) && inRange (stateOf w) ≡ false = sym (whole-bare w) ∙ (sym e ∙ not-true o t) in
+    split (good (w .bytes))
+    (λ g. refused-left w f StateBroken noState (sound w l g) (ef (rw g at h)) refl)
+    (λ b. words-stay w f false (sym b) refl)
+
+-- What the tests say where they hold.
+pub whole-sound : (w : Words) (o : Bool) → Sized w → o ≡ whole (bare w) → not o ≡ false → Sound w
+whole-sound w o l e t = sound w l (whole-good w (sym (whole-bare w) ∙ (sym e ∙ not-false o t)))
+
+pub whole-ranged : (w : Words) (o : Bool) → o ≡ whole (bare w) → not o ≡ false → inRange (stateOf w) ≡ true
+whole-ranged w o e t = whole-range w (sym (whole-bare w) ∙ (sym e ∙ not-false o t))
+
+pub open-sound : (w : Words) (m : Mem) (k : Gate) → Sized w → k ≡ gateMemOn (bare w) m → k ≡ Open → Sound w
+open-sound w m k l e t = sound w l (open-good w _ _ _ _ _ (sym (gate-bare w _ _ _ _ _) ∙ (sym e ∙ t)))
+
+pub opened : (w : Words) (m : Mem) (k : Gate) → k ≡ gateMemOn (bare w) m → k ≡ Open → gateMem (stateOf w) m ≡ Open
+opened w m k e t = open-gate w _ _ _ _ _ (sym (gate-bare w _ _ _ _ _) ∙ (sym e ∙ t))
 
 -- The clock.
-pub clock-refused : (s : State) (i : Bool) → i ≡ inRange s → not i ≡ true → clockCall s ≡ refused s StateBroken
+pub clock-refused : (s : State) → inRange s ≡ false → clockCall s ≡ refused s StateBroken
 unfolding clockCall
-clock-refused s i e t = rw (← e, t)
+clock-refused s f = rw f
 
-pub clock-done : (s : State) (i : Bool) (d d′ : Detector) → i ≡ inRange s → not i ≡ false → d ≡ s .irq → d′ ≡ clocked d → clockCall s ≡ outcome Nothing (withIrq s d′)
+pub clock-done : (s : State) (d d′ : Detector) → inRange s ≡ true → d ≡ s .irq → d′ ≡ clocked d → clockCall s ≡ outcome Nothing (withIrq s d′)
 unfolding clockCall
-clock-done s i d d′ e t ed ed′ = rw (← e, t, ed′, ed)
+clock-done s d d′ h ed ed′ = rw (h, ed′, ed)
 
-pub idle-small : (s : State) (i : Bool) (d : Detector) → i ≡ inRange s → not i ≡ false → d ≡ s .irq → d .«idle_count» ≤ 2
-idle-small s i d e t ed = rw ed (ranges-kept .idle-fits (s .irq) (ranged s (sym e ∙ not-false i t) .detector))
+pub idle-small : (s : State) (d : Detector) → inRange s ≡ true → d ≡ s .irq → d .«idle_count» ≤ 2
+idle-small s d h ed = rw ed (ranges-kept .idle-fits (s .irq) (ranged s h .detector))
 
 -- The CPU read.
-pub read-shut : (s : State) (m : Mem) (a : ℕ) (k : Gate) (r : Refusal) → k ≡ gateMem s m → k ≡ Shut r → cpuRead s m a ≡ refused s r
+pub read-shut : (s : State) (m : Mem) (a : ℕ) (r : Refusal) → gateMem s m ≡ Shut r → cpuRead s m a ≡ refused s r
 unfolding cpuRead
-read-shut s m a k r e t = rw (← e, t)
+read-shut s m a r t = rw t
 
-pub read-audio : (s : State) (m : Mem) (a : ℕ) (k : Gate) (b : Bool) → k ≡ gateMem s m → k ≡ Open → b ≡ audioRead a → b ≡ true → cpuRead s m a ≡ refused s Audio
-unfolding cpuRead
-read-audio s m a k b e t eb tb = rw (← e, t, ← eb, tb)
-
-pub read-done : (s : State) (m : Mem) (a : ℕ) (k : Gate) (b : Bool) (x : PageWord) (page y : Answer) (r : Regs) (v : VSplit) (d d′ : Detector)
-    → k ≡ gateMem s m → k ≡ Open → b ≡ audioRead a → b ≡ false
+pub read-done : (s : State) (m : Mem) (a : ℕ) (x : PageWord) (page y : Answer) (r : Regs) (v : VSplit) (d d′ : Detector)
+    → gateMem s m ≡ Open → audioRead a ≡ false
     → x ≡ prgWordAt (s .«prg_pages») a → page ≡ pageAnswer m (pageOf x) a → r ≡ s .regs → v ≡ s .vsplit → d ≡ s .irq
     → y ≡ registerRead r v d (s .«prg_banks») (s .«chr_banks») a page → d′ ≡ irqRead d a → cpuRead s m a ≡ outcome y (withIrq s d′)
-unfolding cpuRead cpuAnswer
-read-done s m a k b x page y r v d d′ e t eb tb ex ep er ev ed ey ed′ = rw (← e, t, ← eb, tb, ed′, ey, ep, ex, er, ev, ed)
+unfolding cpuAnswer
+read-done s m a x page y r v d d′ h f ex ep er ev ed ey ed′ = read-made s m h a f ∙ rw (ed′, ey, ep, ex, er, ev, ed)

@@ -20,19 +20,8 @@ pub extern "C" fn mmc5_clock(
 ) -> u32
     ensures { λ r. ⌜ leftOf r (wordsAt (now (bytes .exit)) (now (halves .exit)) (now (wide .exit)) (now («prg_banks» .exit)) (now («chr_banks» .exit)) (now («prg_pages» .exit)) (now («chr_pages» .exit))) ≡ onWords (wordsAt (now (bytes .entry)) (now (halves .entry)) (now (wide .entry)) (now («prg_banks» .entry)) (now («chr_banks» .entry)) (now («prg_pages» .entry)) (now («chr_pages» .entry))) (λ (s : State). clockCall s) ⌝ }
 {
-    if !words::read::is_good(bytes) {
-        return told::NO_STATE;
-    }
     words::groups::known(*bytes, *halves, *wide);
-    if !words::ranges::in_range(
-        bytes,
-        halves,
-        wide,
-        prg_banks,
-        chr_banks,
-        prg_pages,
-        chr_pages,
-    ) {
+    if !words::ranges::whole(bytes, halves, wide, prg_pages, chr_pages) {
         return told::NO_STATE;
     }
     let before = words::read::detector_of(bytes, halves);

@@ -17,7 +17,8 @@ pub fn word_at(numbers: &[u16; 64], addr: u16) -> PageWord
     ensures { λ r. ⌜ r ≡ prgWordAt (pagesOf (now (numbers .entry))) addr ⌝ }
 {
     let k = (addr / 1024) as usize;
-    PageWord(numbers[k])
+    let n = numbers[k];
+    PageWord(n)
 }
 
 // A CPU read.
@@ -39,16 +40,11 @@ pub extern "C" fn mmc5_cpu_read(
 ) -> u32
     ensures { λ r. ⌜ leftOf r (wordsAt (now (bytes .exit)) (now (halves .exit)) (now (wide .exit)) (now («prg_banks» .exit)) (now («chr_banks» .exit)) (now («prg_pages» .exit)) (now («chr_pages» .exit))) ≡ onWords (wordsAt (now (bytes .entry)) (now (halves .entry)) (now (wide .entry)) (now («prg_banks» .entry)) (now («chr_banks» .entry)) (now («prg_pages» .entry)) (now («chr_pages» .entry))) (λ (s : State). cpuRead s (memOf (now (prg .entry)) (now (chr .entry)) (now (ram .entry)) (now (ciram .entry)) (now (exram .entry))) addr) ⌝ }
 {
-    if !words::read::is_good(bytes) {
-        return told::NO_STATE;
-    }
     words::groups::known(*bytes, *halves, *wide);
     let gate = words::gate::passed(
         bytes,
         halves,
         wide,
-        prg_banks,
-        chr_banks,
         prg_pages,
         chr_pages,
         prg.len(),

@@ -16,7 +16,7 @@ use Rattle.state.specs.Lengths.{lengthsOk}
 use Rattle.state.specs.Ranges.{ranges, inRange}
 use Rattle.state.proofs.SizeLaws.{lengths-say}
 
-shut-not-open : (r : Refusal) {A : Type 0} → Shut r ≡ Open → A
+pub shut-not-open : (r : Refusal) {A : Type 0} → Shut r ≡ Open → A
 shut-not-open r e = let z : _≡_ {A = ℕ} 0 1 = cc in absurd (omega arith)
 
 pub open-in-range : (s : State) (p c r i e : ℕ) → gateOf s p c r i e ≡ Open → inRange s ≡ true

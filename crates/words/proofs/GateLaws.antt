@@ -1,26 +1,87 @@
--- The gate, step by step.
+-- The gate over lent words, step by step; and what an open gate says.
 use Prim.Native.Nat.{ℕ}
-use mathlib.Core.Bool.{Bool, true, false, not}
-use mathlib.Core.Path.{_≡_}
+use mathlib.Core.Bool.{Bool, true, false, not, _&&_}
+use mathlib.Core.List.{List, []}
+use mathlib.Core.Path.{_≡_, refl, sym, ap, _∙_}
+use borrow.Author.Tests.{not-false}
+use Rattle.memory.proofs.Tests.{and-left, and-right, and-true, split}
 use Rattle.answers.specs.declared.Refusal.the-variants.{Buffers, State as StateBroken}
 use Rattle.state.specs.declared.gate.Gate.the-variants.{Open, Shut}
 use Rattle.state.specs.declared.Lengths.{Lengths}
 use Rattle.state.specs.declared.State.{State}
 use Rattle.state.specs.Gate.{gateOf, sameLengths}
 use Rattle.state.specs.Ranges.{inRange}
+use Rattle.state.proofs.GateLaws.{passes, shut-not-open}
+use Rattle.words.specs.Gate.{whole, gateOn}
+use Rattle.words.specs.Words.{Words, wordsAt, good, lengthsOf, stateOf}
 
-pub not-loaded : (s : State) (z : Lengths) (p c r i e : ℕ) → z ≡ s .lengths → not (z .loaded) ≡ true → Shut StateBroken ≡ gateOf s p c r i e
+-- The gate of a state, by the record of its lengths.
+shut-load : (s : State) (p c r i e : ℕ) → not (s .lengths .loaded) ≡ true → gateOf s p c r i e ≡ Shut StateBroken
 unfolding gateOf
-not-loaded s z p c r i e ez t = rw (← ez, t)
+shut-load s p c r i e t = rw t
 
-pub other-lengths : (s : State) (z : Lengths) (b : Bool) (p c r i e : ℕ) → z ≡ s .lengths → not (z .loaded) ≡ false → b ≡ sameLengths z p c r i e → not b ≡ true → Shut Buffers ≡ gateOf s p c r i e
+shut-lengths : (s : State) (p c r i e : ℕ) → not (s .lengths .loaded) ≡ false → not (sameLengths (s .lengths) p c r i e) ≡ true → gateOf s p c r i e ≡ Shut Buffers
 unfolding gateOf
-other-lengths s z b p c r i e ez t eb tb = rw (← ez, t, ← eb, tb)
+shut-lengths s p c r i e l t = rw (l, t)
 
-pub out-of-range : (s : State) (z : Lengths) (b o : Bool) (p c r i e : ℕ) → z ≡ s .lengths → not (z .loaded) ≡ false → b ≡ sameLengths z p c r i e → not b ≡ false → o ≡ inRange s → not o ≡ true → Shut StateBroken ≡ gateOf s p c r i e
+shut-ranges : (s : State) (p c r i e : ℕ) → not (s .lengths .loaded) ≡ false → not (sameLengths (s .lengths) p c r i e) ≡ false → inRange s ≡ false → gateOf s p c r i e ≡ Shut StateBroken
 unfolding gateOf
-out-of-range s z b o p c r i e ez t eb tb eo to = rw (← eo, to, ← ez, t, ← eb, tb)
+shut-ranges s p c r i e l t f = rw (l, t, f)
 
-pub all-open : (s : State) (z : Lengths) (b o : Bool) (p c r i e : ℕ) → z ≡ s .lengths → not (z .loaded) ≡ false → b ≡ sameLengths z p c r i e → not b ≡ false → o ≡ inRange s → not o ≡ false → Open ≡ gateOf s p c r i e
-unfolding gateOf
-all-open s z b o p c r i e ez t eb tb eo to = rw (← eo, to, ← ez, t, ← eb, tb)
+module _ (w : Words) (z : Lengths) (o b : Bool) (p c r i e : ℕ) (ez : z ≡ lengthsOf (w .bytes) (w .wide)) (eb : b ≡ sameLengths z p c r i e) (eo : o ≡ whole w) where
+  pub opens : o && b ≡ true → Open ≡ gateOn w p c r i e
+  unfolding gateOn whole
+  opens t =
+      let h : good (w .bytes) && inRange (stateOf w) ≡ true = sym eo ∙ and-left o b t in
+      let same : sameLengths (stateOf w .lengths) p c r i e ≡ true = rw (← ez) (sym eb ∙ and-right o b t) in
+      rw (and-left (good (w .bytes)) (inRange (stateOf w)) h) (sym (passes (stateOf w) p c r i e (and-right (good (w .bytes)) (inRange (stateOf w)) h) same))
+
+  pub no-state : (g : Bool) → g ≡ good (w .bytes) → not g ≡ true → Shut StateBroken ≡ gateOn w p c r i e
+  unfolding gateOn
+  no-state g eg t = rw (← eg, t)
+
+  module _ (g : Bool) (eg : g ≡ good (w .bytes)) (tg : not g ≡ false) where
+    pub not-loaded : not (z .loaded) ≡ true → Shut StateBroken ≡ gateOn w p c r i e
+    unfolding gateOn
+    not-loaded t = rw (← eg, tg) (sym (shut-load (stateOf w) p c r i e (ap (λ (x : Lengths). not (x .loaded)) (sym ez) ∙ t)))
+
+    pub other-lengths : not (z .loaded) ≡ false → not b ≡ true → Shut Buffers ≡ gateOn w p c r i e
+    unfolding gateOn
+    other-lengths l t = rw (← eg, tg) (sym (shut-lengths (stateOf w) p c r i e (ap (λ (x : Lengths). not (x .loaded)) (sym ez) ∙ l) (ap (λ (x : Lengths). not (sameLengths x p c r i e)) (sym ez) ∙ (ap not (sym eb) ∙ t))))
+
+    -- The lengths are the same, and not all is well: the ranges.
+    pub out-of-range : o && b ≡ false → not (z .loaded) ≡ false → not b ≡ false → Shut StateBroken ≡ gateOn w p c r i e
+    unfolding gateOn whole
+    out-of-range f l t =
+        let so : o ≡ inRange (stateOf w) = eo ∙ rw (← eg, not-false g tg) in
+        let off : o ≡ false = rw (not-false b t, and-true) at f in
+        rw (← eg, tg) (sym (shut-ranges (stateOf w) p c r i e (ap (λ (x : Lengths). not (x .loaded)) (sym ez) ∙ l) (ap (λ (x : Lengths). not (sameLengths x p c r i e)) (sym ez) ∙ (ap not (sym eb) ∙ t)) (sym so ∙ off)))
+
+-- The banks take any byte, so neither test asks for them.
+abbrev pub bare : Words → Words
+bare w = wordsAt (w .bytes) (w .halves) (w .wide) [] [] (w .prgPages) (w .chrPages)
+
+pub whole-bare : (w : Words) → whole (bare w) ≡ whole w
+unfolding whole inRange
+whole-bare w = refl
+
+pub gate-bare : (w : Words) (p c r i e : ℕ) → gateOn (bare w) p c r i e ≡ gateOn w p c r i e
+unfolding gateOn gateOf inRange
+gate-bare w p c r i e = refl
+
+-- What the tests say where they hold.
+pub whole-good : (w : Words) → whole w ≡ true → good (w .bytes) ≡ true
+unfolding whole
+whole-good w h = and-left (good (w .bytes)) (inRange (stateOf w)) h
+
+pub whole-range : (w : Words) → whole w ≡ true → inRange (stateOf w) ≡ true
+unfolding whole
+whole-range w h = and-right (good (w .bytes)) (inRange (stateOf w)) h
+
+pub open-good : (w : Words) (p c r i e : ℕ) → gateOn w p c r i e ≡ Open → good (w .bytes) ≡ true
+unfolding gateOn
+open-good w p c r i e h = split (good (w .bytes)) (λ t. t) (λ f. shut-not-open StateBroken (rw f at h))
+
+pub open-gate : (w : Words) (p c r i e : ℕ) → gateOn w p c r i e ≡ Open → gateOf (stateOf w) p c r i e ≡ Open
+unfolding gateOn
+open-gate w p c r i e h = rw (open-good w p c r i e h) at h

@@ -1,2 +1,3 @@
 pub mod Words
 pub mod Put
+pub mod Gate

@@ -1,10 +1,11 @@
 // 01's STATE ranges, tested on the lent words where they lie.
 ghost use mathlib.Core.Path.{_≡_};
 ghost use Prim.Native.Nat.{_≤_};
+ghost use mathlib.Core.List.{[]};
 ghost use lib.ListN.{length};
 ghost use Rattle.memory.specs.Tables.{prgTableOk, chrTableOk};
-ghost use Rattle.state.specs.Ranges.{inRange};
-ghost use Rattle.words.specs.Words.{pagesOf, stateOf, wordsAt};
+ghost use Rattle.words.specs.Gate.{whole};
+ghost use Rattle.words.specs.Words.{pagesOf, wordsAt};
 use crate::read;
 use memory::PageWord;
 
@@ -47,16 +48,15 @@ pub fn chr_numbers_ok(chr_len: u32, chr_writable: bool, numbers: &[u16; 16]) -> 
     ok
 }
 
-pub fn in_range(
+// The words are a state in range. The banks are not asked: they take any byte.
+pub fn whole(
     bytes: &[u8; 33],
     halves: &[u16; 5],
     wide: &[u32; 6],
-    prg_banks: &[u8; 5],
-    chr_banks: &[u8; 16],
     prg_pages: &[u16; 64],
     chr_pages: &[u16; 16],
 ) -> bool
-    ensures { λ r. ⌜ r ≡ inRange (stateOf (wordsAt (now (bytes .entry)) (now (halves .entry)) (now (wide .entry)) (now («prg_banks» .entry)) (now («chr_banks» .entry)) (now («prg_pages» .entry)) (now («chr_pages» .entry)))) ⌝ }
+    ensures { λ r. ⌜ r ≡ whole (wordsAt (now (bytes .entry)) (now (halves .entry)) (now (wide .entry)) [] [] (now («prg_pages» .entry)) (now («chr_pages» .entry))) ⌝ }
 {
     let z = read::lengths_of(bytes, wide);
     let taken = state::sizes::lengths_ok(z);
@@ -65,11 +65,12 @@ pub fn in_range(
     }
     sixty_four(*prg_pages);
     sixteen(*chr_pages);
+    let good = read::is_good(bytes);
     let regs = registers::ranges_ok(read::regs_of(bytes, halves));
     let vsplit = split::control::ranges_ok(read::split_of(bytes, halves));
     let irq = scanline::ranges_ok(read::detector_of(bytes, halves));
     let tiles = scanline::tiles::tiles_ok(wide[5]);
     let prg = prg_numbers_ok(z.prg, z.ram, prg_pages);
     let chr = chr_numbers_ok(z.chr, z.chr_writable, chr_pages);
-    irq & (regs & (vsplit & ((halves[4] <= 1023) & (tiles & (prg & chr)))))
+    good & (irq & (regs & (vsplit & ((halves[4] <= 1023) & (tiles & (prg & chr))))))
 }

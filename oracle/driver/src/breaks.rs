@@ -56,7 +56,7 @@ fn broken(random: &mut Random, s: &mut State) -> (&'static str, u8) {
             ("line counter", 5)
         }
         11 => {
-            s.wide[5] = u32::MAX - random.below(2) as u32;
+            s.wide[5] = u32::MAX - random.below(2) as u16;
             ("tile count", 5)
         }
         12 => {
@@ -77,19 +77,19 @@ fn broken(random: &mut Random, s: &mut State) -> (&'static str, u8) {
             ("CIRAM or ExRAM length", 4)
         }
         16 => {
-            s.prg_pages[random.below(64)] = 3 + prg_pages + random.below(1_000) as u32;
+            s.prg_pages[random.below(64)] = 3 + prg_pages + random.below(1_000) as u16;
             ("PRG page past PRG-ROM", 5)
         }
         17 => {
-            s.prg_pages[random.below(64)] = u32::MAX - 2 * ram_pages - random.below(100) as u32;
+            s.prg_pages[random.below(64)] = u16::MAX - 2 * ram_pages - random.below(100) as u16;
             ("PRG page past PRG-RAM", 5)
         }
         18 => {
-            s.chr_pages[random.below(16)] = 2_055 + chr_pages + random.below(1_000) as u32;
+            s.chr_pages[random.below(16)] = 2_055 + chr_pages + random.below(1_000) as u16;
             ("CHR page past CHR", 5)
         }
         19 => {
-            s.chr_pages[random.below(16)] = 3 + random.below(1_024) as u32;
+            s.chr_pages[random.below(16)] = 3 + random.below(1_024) as u16;
             ("CHR page that shows PRG-ROM", 5)
         }
         20 => {
