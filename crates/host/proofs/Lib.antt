@@ -2,3 +2,4 @@ pub mod HostLaws
 pub mod CopyLaws
 pub mod EntryLaws
 pub mod FastLaws
+pub mod FetchLaws

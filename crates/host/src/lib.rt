@@ -2,6 +2,7 @@
 // is made on it by value, and the state after it is put back. Nothing that the words hold is trusted. docs/HOST.md has the boundary for a reader.
 pub mod clocks;
 pub mod cpu_side;
+pub mod fetches;
 pub mod loads;
 pub mod pages;
 pub mod ppu_side;

@@ -3,59 +3,10 @@ ghost use mathlib.Core.Path.{_≡_};
 ghost use Rattle.state.specs.declared.State.{State};
 ghost use Rattle.words.specs.Words.{wordsAt};
 ghost use Rattle.memory.specs.Bytes.{memOf};
-ghost use Rattle.board_ppu.specs.Fetch.{ppuFetch};
 ghost use Rattle.board_ppu.specs.Peeks.{ppuPeek, spritePeek, ppuWrite};
-ghost use Rattle.host.specs.Hosted.{leftOf, onWords, hostedOf, onMemory, peekOn};
+ghost use Rattle.host.specs.Hosted.{hostedOf, onMemory, peekOn};
 use crate::told;
 use memory::PpuAddr;
-
-// A PPU fetch.
-#[no_mangle]
-pub extern "C" fn mmc5_ppu_fetch(
-    bytes: &mut [u8; 33],
-    halves: &mut [u16; 5],
-    wide: &mut [u32; 6],
-    prg_banks: &mut [u8; 5],
-    chr_banks: &mut [u8; 16],
-    prg_pages: &mut [u16; 64],
-    chr_pages: &mut [u16; 16],
-    prg: &[u8],
-    chr: &[u8],
-    ram: &[u8],
-    ciram: &[u8],
-    exram: &[u8],
-    addr: u16,
-) -> u32
-    ensures { λ r. ⌜ leftOf r (wordsAt (now (bytes .exit)) (now (halves .exit)) (now (wide .exit)) (now («prg_banks» .exit)) (now («chr_banks» .exit)) (now («prg_pages» .exit)) (now («chr_pages» .exit))) ≡ onWords (wordsAt (now (bytes .entry)) (now (halves .entry)) (now (wide .entry)) (now («prg_banks» .entry)) (now («chr_banks» .entry)) (now («prg_pages» .entry)) (now («chr_pages» .entry))) (λ (s : State). ppuFetch s (memOf (now (prg .entry)) (now (chr .entry)) (now (ram .entry)) (now (ciram .entry)) (now (exram .entry))) addr) ⌝ }
-{
-    if !words::read::is_good(bytes) {
-        return told::NO_STATE;
-    }
-    let s = words::read::state_of(
-        bytes,
-        halves,
-        wide,
-        prg_banks,
-        chr_banks,
-        prg_pages,
-        chr_pages,
-    );
-    let o = board_ppu::calls::ppu_fetch(s, prg, chr, ram, ciram, exram, PpuAddr(addr));
-    let answer = o.answer;
-    let t = o.state;
-    let irq = t.irq;
-    words::put::put_state(
-        t,
-        bytes,
-        halves,
-        wide,
-        prg_banks,
-        chr_banks,
-        prg_pages,
-        chr_pages,
-    );
-    told::with_interrupt(answer, irq)
-}
 
 // A PPU peek.
 #[no_mangle]

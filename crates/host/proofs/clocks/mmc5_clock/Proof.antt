@@ -13,7 +13,7 @@ whole-requires : tie.Need-whole-requires
 whole-requires c κs = search needs
 
 returns : tie.Need-returns
-returns c = 
+returns c =
     let a = c .before .before .before .before .before .before .before .before .before .before .before .args in
     let w = (wordsAt (a .bytes .now) (a .halves .now) (a .wide .now) (a .«prg-banks» .now) (a .«chr-banks» .now) (a .«prg-pages» .now) (a .«chr-pages» .now)) in
     not-whole-left w _ _ (c .before .before .before .before .before .before .before .known .ensures) (c .before .whole .ensures) (c .if1 .taken) (clock-refused _)
@@ -22,7 +22,7 @@ detector-of-requires : tie.Need-detector-of-requires
 detector-of-requires c κs = search needs
 
 clock-requires : tie.Need-clock-requires
-clock-requires c κs = 
+clock-requires c κs =
     let a = c .before .before .before .before .before .before .before .before .before .before .before .before .before .before .args in
     let w = (wordsAt (a .bytes .now) (a .halves .now) (a .wide .now) (a .«prg-banks» .now) (a .«chr-banks» .now) (a .«prg-pages» .now) (a .«chr-pages» .now)) in
     idle-small (stateOf w) _ (whole-ranged w _ (c .before .before .before .before .whole .ensures) (c .before .before .before .if1 .left)) (c .detector-of .ensures)
@@ -34,7 +34,7 @@ with-interrupt-requires : tie.Need-with-interrupt-requires
 with-interrupt-requires c κs = search needs
 
 returns-2 : tie.Need-returns-2
-returns-2 c = 
+returns-2 c =
     let a = c .before .before .before .before .before .before .before .before .before .before .before .before .before .before .before .before .before .before .before .args in
     let w = (wordsAt (a .bytes .now) (a .halves .now) (a .wide .now) (a .«prg-banks» .now) (a .«chr-banks» .now) (a .«prg-pages» .now) (a .«chr-pages» .now)) in
     irq-left w _ Nothing _ _ _ _ (whole-sound w _ (c .before .before .before .before .before .before .before .before .before .before .before .before .before .before .before .known .ensures) (c .before .before .before .before .before .before .before .before .before .whole .ensures) (c .before .before .before .before .before .before .before .before .if1 .left))

@@ -1,0 +1,36 @@
+-- A table that is not mapped keeps its numbers.
+use mathlib.Core.Path.{sym}
+use borrow.Author.Tests.{not-true, not-false}
+use Rattle.words.proofs.RoundLaws.{numbers-back}
+use borrow.Author.Needs.{needs}
+use Rattle.host.proofs.fetches.map_on_change.Statement.{statement}
+use Rattle.host.proofs.fetches.map_on_change.Tie as tie
+
+set-changed-requires : tie.Need-set-changed-requires
+set-changed-requires c κs = search needs
+
+returns : tie.Need-returns
+returns c = rw (← c .before .set-changed .ensures, not-true (c .before .set-changed .result) (c .if1 .taken)) (sym (numbers-back (c .before .before .args .numbers .now)))
+
+chr-table-requires : tie.Need-chr-table-requires
+chr-table-requires c κs = search needs
+
+map-chr-requires : tie.Need-map-chr-requires
+map-chr-requires c κs = search needs
+
+chr-numbers-requires : tie.Need-chr-numbers-requires
+chr-numbers-requires c κs = search needs
+
+returns-2 : tie.Need-returns-2
+returns-2 c = rw (← c .before .before .before .before .before .before .set-changed .ensures, not-false (c .before .before .before .before .before .before .set-changed .result) (c .before .before .before .before .before .if1 .left), ← c .before .before .before .chr-table .ensures, ← c .before .map-chr .ensures) (c .chr-numbers .ensures)
+
+pub map-on-change-spec : {M : Type 1} → statement M
+map-on-change-spec =
+    tie.close
+    (tie.spec
+    set-changed-requires
+    returns
+    chr-table-requires
+    map-chr-requires
+    chr-numbers-requires
+    returns-2)
