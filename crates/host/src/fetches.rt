@@ -6,15 +6,13 @@ ghost use Rattle.state.specs.declared.State.{State};
 ghost use Rattle.banks.specs.Chr.{chrMapped};
 ghost use Rattle.board_ppu.specs.Fetch.{ppuFetch, setChanged};
 ghost use Rattle.board_ppu.specs.Peeks.{chrWordAt};
-ghost use Rattle.words.specs.Words.{wordsAt, pagesOf, numbersOf};
+ghost use Rattle.words.specs.Words.{wordsAt, lengthsOf, regsOf, pagesOf, numbersOf};
 ghost use Rattle.host.specs.Hosted.{leftOf, onWords};
 use crate::told;
 use answers::Answer;
 use answers::Refusal;
 use arms::ppu_side;
 use memory::PageWord;
-use registers::Regs;
-use state::Lengths;
 use state::gate::Gate;
 
 // The page word at a PPU address, in a table lent as numbers.
@@ -30,17 +28,22 @@ pub fn word_at(numbers: &[u16; 16], addr: u16) -> PageWord
 fn map_on_change(
     before: bool,
     after: bool,
-    lengths: Lengths,
-    regs: Regs,
+    bytes: &[u8; 33],
+    halves: &[u16; 5],
+    wide: &[u32; 6],
     banks: &[u8; 16],
     numbers: &mut [u16; 16],
 )
     ensures { λ _. ⌜ now (numbers .exit)
-        ≡ numbersOf (pick (setChanged before after) (chrMapped (lengths .chr) (lengths .«chr_writable») regs (now (banks .entry)) after (pagesOf (now (numbers .entry)))) (pagesOf (now (numbers .entry)))) ⌝ }
+        ≡ numbersOf (pick (setChanged before after)
+        (chrMapped (lengthsOf (now (bytes .entry)) (now (wide .entry)) .chr) (lengthsOf (now (bytes .entry)) (now (wide .entry)) .«chr_writable») (regsOf (now (bytes .entry)) (now (halves .entry))) (now (banks .entry)) after (pagesOf (now (numbers .entry))))
+        (pagesOf (now (numbers .entry)))) ⌝ }
 {
     if !board_ppu::calls::set_changed(before, after) {
         return;
     }
+    let lengths = words::read::lengths_of(bytes, wide);
+    let regs = words::read::regs_of(bytes, halves);
     let shown = words::tables::chr_table(*numbers);
     let mapped = banks::chr::map_chr(
         lengths.chr,
@@ -115,17 +118,17 @@ pub extern "C" fn mmc5_ppu_fetch(
             addr,
         );
         words::groups::put_detector(seen, bytes, halves);
-        words::groups::put_status(status, bytes, halves, wide);
-        words::groups::put_split(region, bytes, halves);
+        words::groups::put_tiles(status, halves, wide);
+        words::groups::put_region(region, bytes, halves);
         return told::with_interrupt(answer, seen);
     }
     let chosen = ppu_side::chosen_at(ppu, irq.in_frame, addr);
-    let lengths = words::read::lengths_of(bytes, wide);
     map_on_change(
         ppu.bg_set,
         chosen.bg_set,
-        lengths,
-        regs,
+        bytes,
+        halves,
+        wide,
         chr_banks,
         chr_pages,
     );
@@ -143,6 +146,6 @@ pub extern "C" fn mmc5_ppu_fetch(
         exram,
         addr,
     );
-    words::groups::put_status(chosen, bytes, halves, wide);
+    words::groups::put_set(chosen, bytes);
     told::with_interrupt(answer, irq)
 }

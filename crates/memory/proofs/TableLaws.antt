@@ -11,7 +11,7 @@ use lib.ListN.{length, take, getD, set}
 use lib.Seq.{take-suc, take-all}
 use Rattle.memory.specs.declared.Page.{Page}
 use Rattle.memory.specs.declared.PageWord.{PageWord}
-use Rattle.memory.specs.Words.{pick, pageOf}
+use Rattle.memory.specs.Words.{pick, pageOf, prgPlace, prgPlaces}
 use Rattle.memory.specs.Tables.{whole, prgShows, prgShowsAs, chrShows, chrShowsAs, all}
 use Rattle.memory.proofs.Tests.{split, or-false, and-true, and-false, lt-is-le, le-is-le}
 use Rattle.memory.proofs.WordLaws.{by-runs}
@@ -42,7 +42,7 @@ prg-runs prg ram w hp hr hw =
     (λ g. rw (le-ltb n (3 + prg / 1024) (omega arith)) (lt-is-le (65535 - n) (2 * (ram / 1024)) ((65535 - n) / 2 * 1024 + 1024) ram (λ k. omega arith) (λ k. omega arith)))
 
 pub prg-run : (prg ram : ℕ) (w : PageWord) → prg ≤ 1048576 → ram ≤ 65536 → w .0 < 65536
-    → ltb ((w .0 + 2 * (ram / 1024)) % 65536) (3 + prg / 1024 + 2 * (ram / 1024)) ≡ prgShows prg ram (pageOf w)
+    → ltb (prgPlace ram w) (prgPlaces prg ram) ≡ prgShows prg ram (pageOf w)
 prg-run prg ram w hp hr hw = turned (w .0) (2 * (ram / 1024)) (3 + prg / 1024) hw (omega arith) (omega arith) ∙ prg-runs prg ram w hp hr hw
 
 -- The words of a CHR table; `low` is the number of pages that may be marked writable.

@@ -64,3 +64,11 @@ pageOf p =
     (pick (ltb (p .0) 2055) (page CiRam ((p .0 - 2051) / 2) (eqb ((p .0 - 2051) % 2) 1))
     (pick (ltb (p .0) 65408) (page Chr (p .0 - 2055) false)
     (page PrgRam ((65535 - p .0) / 2) (eqb ((65535 - p .0) % 2) 1)))))))
+
+-- The words that a PRG table may hold are one run of 16-bit numbers, from PRG-RAM's last page past the greatest number and on to PRG-ROM's last:
+-- a word's place in the run, and how many places it has.
+abbrev pub prgPlace : ℕ → PageWord → ℕ
+prgPlace ram p = (p .0 + 2 * (ram / 1024)) % 65536
+
+abbrev pub prgPlaces : ℕ → ℕ → ℕ
+prgPlaces prg ram = 3 + prg / 1024 + 2 * (ram / 1024)

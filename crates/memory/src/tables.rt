@@ -1,18 +1,33 @@
 // The two page tables, and whether each of their words is one that the table may hold (01, "STATE ranges").
 ghost use mathlib.Core.Path.{_≡_};
-ghost use Prim.Native.Nat.{_≤_};
-ghost use Rattle.memory.specs.Words.{pick, pageOf};
+ghost use Prim.Native.Nat.{_<_, _≤_};
+ghost use Rattle.memory.specs.Words.{pick, pageOf, prgPlace, prgPlaces};
 ghost use Rattle.memory.specs.Tables.{prgShows, chrShows, prgTableOk, chrTableOk};
 use crate::PageWord;
 
-// One run of words around blank: PRG-RAM below it, ExRAM and PRG-ROM above.
-pub fn prg_word_ok(prg_len: u32, ram_len: u32, word: PageWord) -> bool
+// The words that a PRG table may hold are one run around blank: PRG-RAM below it, ExRAM and PRG-ROM above. A word's place in that run;
+// and that the word has 16 bits, which its type says and a caller's proof wants to hear.
+pub fn prg_place(ram_len: u32, word: PageWord) -> u16
+    requires { ⌜ «ram_len» ≤ 65536 ⌝ }
+    ensures { λ r. ⌜ (r ≡ prgPlace «ram_len» word) × (word .0 < 65536) ⌝ }
+{
+    let below = 2 * (ram_len / 1024) as u16;
+    std::num::wrapping_add_u16(word.0, below)
+}
+
+// How many words the run has.
+pub fn prg_places(prg_len: u32, ram_len: u32) -> u16
+    requires { ⌜ («prg_len» ≤ 1048576) × («ram_len» ≤ 65536) ⌝ }
+    ensures { λ r. ⌜ r ≡ prgPlaces «prg_len» «ram_len» ⌝ }
+{
+    3 + (prg_len / 1024) as u16 + 2 * (ram_len / 1024) as u16
+}
+
+fn prg_word_ok(prg_len: u32, ram_len: u32, word: PageWord) -> bool
     requires { ⌜ («prg_len» ≤ 1048576) × («ram_len» ≤ 65536) ⌝ }
     ensures { λ r. ⌜ r ≡ prgShows «prg_len» «ram_len» (pageOf word) ⌝ }
 {
-    let below = 2 * (ram_len / 1024) as u16;
-    let above = 3 + (prg_len / 1024) as u16;
-    std::num::wrapping_add_u16(word.0, below) < above + below
+    prg_place(ram_len, word) < prg_places(prg_len, ram_len)
 }
 
 // A count, or none.

@@ -1,4 +1,4 @@
--- Words with one group of the state put anew.
+-- Words with one group of the state put anew, or what a call can change of it.
 use Prim.Native.Nat.{ℕ}
 use mathlib.Core.List.{List}
 use lib.ListN.{set}
@@ -16,18 +16,19 @@ abbrev pub irqHalves : List ℕ → Detector → List ℕ
 irqHalves h d = set (set h 2 (d .«prev_addr» .0)) 3 (d .scanline)
 
 -- The split's region and tile address.
-abbrev pub splitBytes : List ℕ → VSplit → List ℕ
-splitBytes b v = set (set (set (set (set (set (set b 3 (flag (v .enabled))) 4 (flag (v .right))) 5 (flag (v .«in_region»))) 26 (v .mode)) 27 (v .tile)) 28 (v .scroll)) 29 (v .bank)
+abbrev pub regionBytes : List ℕ → VSplit → List ℕ
+regionBytes b v = set b 5 (flag (v .«in_region»))
 
-abbrev pub splitHalves : List ℕ → VSplit → List ℕ
-splitHalves h v = set h 1 (v .«tile_addr»)
+abbrev pub regionHalves : List ℕ → VSplit → List ℕ
+regionHalves h v = set h 1 (v .«tile_addr»)
 
--- The PPU status.
-abbrev pub statusBytes : List ℕ → PpuStatus → List ℕ
-statusBytes b p = set (set (set (set b 11 (flag (p .sprite8x16))) 12 (flag (p .rendering))) 13 (flag (p .«bg_set»))) 14 (flag (p .«bg_written»))
+-- The tile count and the tile cache.
+abbrev pub tileHalves : List ℕ → PpuStatus → List ℕ
+tileHalves h p = set h 4 (p .«tile_cache»)
 
-abbrev pub statusHalves : List ℕ → PpuStatus → List ℕ
-statusHalves h p = set h 4 (p .«tile_cache»)
+abbrev pub tileWide : List ℕ → PpuStatus → List ℕ
+tileWide w p = set w 5 (p .«tile_number»)
 
-abbrev pub statusWide : List ℕ → PpuStatus → List ℕ
-statusWide w p = set w 5 (p .«tile_number»)
+-- The CHR set, and to which set the last CHR write was.
+abbrev pub setBytes : List ℕ → PpuStatus → List ℕ
+setBytes b p = set (set b 13 (flag (p .«bg_set»))) 14 (flag (p .«bg_written»))

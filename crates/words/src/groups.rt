@@ -1,7 +1,7 @@
 // One group of the state, put into the words where it stands.
 ghost use mathlib.Core.Path.{_≡_};
 ghost use lib.ListN.{length};
-ghost use Rattle.words.specs.Put.{irqBytes, irqHalves, splitBytes, splitHalves, statusBytes, statusHalves, statusWide};
+ghost use Rattle.words.specs.Put.{irqBytes, irqHalves, regionBytes, regionHalves, tileHalves, tileWide, setBytes};
 use scanline::Detector;
 use split::VSplit;
 use state::PpuStatus;
@@ -26,26 +26,26 @@ pub fn put_detector(d: Detector, bytes: &mut [u8; 33], halves: &mut [u16; 5])
     halves[3] = d.scanline;
 }
 
-pub fn put_split(v: VSplit, bytes: &mut [u8; 33], halves: &mut [u16; 5])
-    ensures { λ _. ⌜ (now (bytes .exit) ≡ splitBytes (now (bytes .entry)) v) × (now (halves .exit) ≡ splitHalves (now (halves .entry)) v) ⌝ }
+// Of the split a fetch changes the region and the tile address.
+pub fn put_region(v: VSplit, bytes: &mut [u8; 33], halves: &mut [u16; 5])
+    ensures { λ _. ⌜ (now (bytes .exit) ≡ regionBytes (now (bytes .entry)) v) × (now (halves .exit) ≡ regionHalves (now (halves .entry)) v) ⌝ }
 {
-    bytes[3] = v.enabled as u8;
-    bytes[4] = v.right as u8;
     bytes[5] = v.in_region as u8;
-    bytes[26] = v.mode;
-    bytes[27] = v.tile;
-    bytes[28] = v.scroll;
-    bytes[29] = v.bank;
     halves[1] = v.tile_addr;
 }
 
-pub fn put_status(p: PpuStatus, bytes: &mut [u8; 33], halves: &mut [u16; 5], wide: &mut [u32; 6])
-    ensures { λ _. ⌜ (now (bytes .exit) ≡ statusBytes (now (bytes .entry)) p) × ((now (halves .exit) ≡ statusHalves (now (halves .entry)) p) × (now (wide .exit) ≡ statusWide (now (wide .entry)) p)) ⌝ }
+// Of the PPU status a fetch that counts changes the tile count and the tile cache.
+pub fn put_tiles(p: PpuStatus, halves: &mut [u16; 5], wide: &mut [u32; 6])
+    ensures { λ _. ⌜ (now (halves .exit) ≡ tileHalves (now (halves .entry)) p) × (now (wide .exit) ≡ tileWide (now (wide .entry)) p) ⌝ }
 {
-    bytes[11] = p.sprite8x16 as u8;
-    bytes[12] = p.rendering as u8;
-    bytes[13] = p.bg_set as u8;
-    bytes[14] = p.bg_written as u8;
     halves[4] = p.tile_cache;
     wide[5] = p.tile_number;
+}
+
+// A fetch that chooses a set changes the set, and which set the last CHR write was to.
+pub fn put_set(p: PpuStatus, bytes: &mut [u8; 33])
+    ensures { λ _. ⌜ now (bytes .exit) ≡ setBytes (now (bytes .entry)) p ⌝ }
+{
+    bytes[13] = p.bg_set as u8;
+    bytes[14] = p.bg_written as u8;
 }

@@ -2,8 +2,10 @@
 ghost use mathlib.Core.Path.{_≡_};
 ghost use Prim.Native.Nat.{_≤_};
 ghost use mathlib.Core.List.{[]};
+ghost use lib.Dec.{ltb};
 ghost use lib.ListN.{length};
 ghost use Rattle.memory.specs.Tables.{prgTableOk, chrTableOk};
+ghost use Rattle.memory.specs.Words.{pick};
 ghost use Rattle.words.specs.Gate.{whole};
 ghost use Rattle.words.specs.Words.{pagesOf, wordsAt};
 use crate::read;
@@ -18,19 +20,27 @@ fn sixteen(table: [u16; 16])
     ensures { λ _. ⌜ length table ≡ 16 ⌝ }
 {}
 
+// The larger of two.
+fn larger(a: u16, b: u16) -> u16
+    ensures { λ r. ⌜ r ≡ pick (ltb a b) b a ⌝ }
+{
+    if a < b { b } else { a }
+}
+
+// The furthest place of a word in the run that a PRG table may hold, against the number of places.
 pub fn prg_numbers_ok(prg_len: u32, ram_len: u32, numbers: &[u16; 64]) -> bool
     requires { ⌜ («prg_len» ≤ 1048576) × ((«ram_len» ≤ 65536) × (length (now numbers) ≡ 64)) ⌝ }
     ensures { λ r. ⌜ r ≡ prgTableOk «prg_len» «ram_len» (pagesOf (now (numbers .entry))) ⌝ }
 {
-    let mut ok = true;
+    let mut furthest: u16 = 0;
     let mut i: usize = 0;
     while i < 64 {
         let n = numbers[i];
-        let one = memory::tables::prg_word_ok(prg_len, ram_len, PageWord(n));
-        ok = ok & one;
+        let place = memory::tables::prg_place(ram_len, PageWord(n));
+        furthest = larger(furthest, place);
         i += 1;
     }
-    ok
+    furthest < memory::tables::prg_places(prg_len, ram_len)
 }
 
 pub fn chr_numbers_ok(chr_len: u32, chr_writable: bool, numbers: &[u16; 16]) -> bool

@@ -6,9 +6,9 @@ use oracle::{generate::random::Random, trace::Record};
 
 /// Breaks one thing; tells its name and the refusal that calls over memory must give.
 fn broken(random: &mut Random, s: &mut State) -> (&'static str, u8) {
-    let chr_pages = s.wide[1] / 1_024;
-    let ram_pages = s.wide[2] / 1_024;
-    let prg_pages = s.wide[0] / 1_024;
+    let chr_pages = (s.wide[1] / 1_024) as u16;
+    let ram_pages = (s.wide[2] / 1_024) as u16;
+    let prg_pages = (s.wide[0] / 1_024) as u16;
     match random.below(22) {
         0 => {
             s.bytes[random.below(15)] = 2 + random.byte() % 254;
@@ -56,7 +56,7 @@ fn broken(random: &mut Random, s: &mut State) -> (&'static str, u8) {
             ("line counter", 5)
         }
         11 => {
-            s.wide[5] = u32::MAX - random.below(2) as u16;
+            s.wide[5] = u32::MAX - random.below(2) as u32;
             ("tile count", 5)
         }
         12 => {
@@ -93,12 +93,12 @@ fn broken(random: &mut Random, s: &mut State) -> (&'static str, u8) {
             ("CHR page that shows PRG-ROM", 5)
         }
         20 => {
-            s.prg_pages[random.below(64)] = 1_027 + random.below(1_028) as u32 + prg_pages;
+            s.prg_pages[random.below(64)] = 1_027 + random.below(1_028) as u16 + prg_pages;
             ("PRG page that shows CHR", 5)
         }
         _ => {
             let writable = s.bytes[1] == 1;
-            s.chr_pages[random.below(16)] = if writable { 2_050 - chr_pages.min(1_023) - u32::from(chr_pages < 1_024) } else { 2_050 };
+            s.chr_pages[random.below(16)] = if writable { 2_050 - chr_pages.min(1_023) - u16::from(chr_pages < 1_024) } else { 2_050 };
             if writable && chr_pages >= 1_023 {
                 s.chr_pages[0] = 1_026;
             }

@@ -1,7 +1,8 @@
 -- A table that is not mapped keeps its numbers.
 use mathlib.Core.Path.{sym}
-use borrow.Author.Tests.{not-true, not-false}
+use borrow.Author.Tests.{not-true}
 use Rattle.words.proofs.RoundLaws.{numbers-back}
+use Rattle.host.proofs.FetchLaws.{put-mapped}
 use borrow.Author.Needs.{needs}
 use Rattle.host.proofs.fetches.map_on_change.Statement.{statement}
 use Rattle.host.proofs.fetches.map_on_change.Tie as tie
@@ -11,6 +12,12 @@ set-changed-requires c κs = search needs
 
 returns : tie.Need-returns
 returns c = rw (← c .before .set-changed .ensures, not-true (c .before .set-changed .result) (c .if1 .taken)) (sym (numbers-back (c .before .before .args .numbers .now)))
+
+lengths-of-requires : tie.Need-lengths-of-requires
+lengths-of-requires c κs = search needs
+
+regs-of-requires : tie.Need-regs-of-requires
+regs-of-requires c κs = search needs
 
 chr-table-requires : tie.Need-chr-table-requires
 chr-table-requires c κs = search needs
@@ -22,7 +29,8 @@ chr-numbers-requires : tie.Need-chr-numbers-requires
 chr-numbers-requires c κs = search needs
 
 returns-2 : tie.Need-returns-2
-returns-2 c = rw (← c .before .before .before .before .before .before .set-changed .ensures, not-false (c .before .before .before .before .before .before .set-changed .result) (c .before .before .before .before .before .if1 .left), ← c .before .before .before .chr-table .ensures, ← c .before .map-chr .ensures) (c .chr-numbers .ensures)
+returns-2 c =
+    put-mapped (c .before .before .before .before .before .before .before .before .before .args .before) (c .before .before .before .before .before .before .before .before .before .args .after) _ _ _ _ _ _ (c .before .before .before .before .before .before .before .before .before .args .numbers .now) _ _ _ (c .before .before .before .before .before .before .before .before .set-changed .ensures) (c .before .before .before .before .before .before .before .if1 .left) (c .before .before .before .before .before .before .lengths-of .ensures) (c .before .before .before .before .before .regs-of .ensures) (c .before .before .before .chr-table .ensures) (c .before .map-chr .ensures) (c .chr-numbers .ensures)
 
 pub map-on-change-spec : {M : Type 1} → statement M
 map-on-change-spec =
@@ -30,6 +38,8 @@ map-on-change-spec =
     (tie.spec
     set-changed-requires
     returns
+    lengths-of-requires
+    regs-of-requires
     chr-table-requires
     map-chr-requires
     chr-numbers-requires

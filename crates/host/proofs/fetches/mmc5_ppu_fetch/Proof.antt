@@ -5,7 +5,7 @@ use Rattle.memory.specs.Bytes.{memOf}
 use Rattle.arms.proofs.Made.{fetch-refused}
 use Rattle.words.specs.Words.{wordsAt, stateOf}
 use Rattle.host.proofs.FastLaws.{shut-left, refused-left, open-sound, opened}
-use Rattle.host.proofs.FetchLaws.{fetch-shut, not-refused, detector-ranged, tiles-ranged, counted-done, counted-left, other-left}
+use Rattle.host.proofs.FetchLaws.{fetch-shut, not-refused, detector-ranged, tiles-ranged, flags-kept, split-kept, counted-done, counted-left, other-left}
 use borrow.Author.Needs.{needs}
 use Rattle.host.proofs.fetches.mmc5_ppu_fetch.Statement.{statement}
 use Rattle.host.proofs.fetches.mmc5_ppu_fetch.Tie as tie
@@ -79,32 +79,29 @@ counted-answer-requires c κs = search needs
 put-detector-requires : tie.Need-put-detector-requires
 put-detector-requires c κs = search needs
 
-put-status-requires : tie.Need-put-status-requires
-put-status-requires c κs = search needs
+put-tiles-requires : tie.Need-put-tiles-requires
+put-tiles-requires c κs = search needs
 
-put-split-requires : tie.Need-put-split-requires
-put-split-requires c κs = search needs
+put-region-requires : tie.Need-put-region-requires
+put-region-requires c κs = search needs
 
 with-interrupt-requires : tie.Need-with-interrupt-requires
 with-interrupt-requires c κs = search needs
 
 returns-3 : tie.Need-returns-3
 returns-3 c =
-    let a = c .before .before .before .before .before .before .before .before .before .before .before .before .before .before .before .before .before .before .before .before .before .before .before .before .before .before .before .before .before .before .before .before .before .before .before .before .before .before .before .before .before .before .before .before .before .before .before .before .before .before .before .before .args in
+    let a = c .before .before .before .before .before .before .before .before .before .before .before .before .before .before .before .before .before .before .before .before .before .before .before .before .before .before .before .before .before .before .before .before .before .before .before .before .before .before .before .before .before .before .before .before .before .before .before .before .before .before .before .args in
     let w = wordsAt (a .bytes .now) (a .halves .now) (a .wide .now) (a .«prg-banks» .now) (a .«chr-banks» .now) (a .«prg-pages» .now) (a .«chr-pages» .now) in
     let m = memOf (a .prg .now) (a .chr .now) (a .ram .now) (a .ciram .now) (a .exram .now) in
-    counted-left w _ _ _ _ _ _ _ _ _ _ _ _ _ (open-sound w m _ (c .before .before .before .before .before .before .before .before .before .before .before .before .before .before .before .before .before .before .before .before .before .before .before .before .before .before .before .before .before .before .before .before .before .before .before .before .before .before .before .before .before .before .before .known .ensures) (c .before .before .before .before .before .before .before .before .before .before .before .before .before .before .before .before .before .before .before .before .before .before .before .before .before .before .before .before .before .before .before .before .before .before .before .before .before .passed .ensures) (c .before .before .before .before .before .before .before .before .before .before .before .before .before .before .before .before .before .before .before .before .before .before .before .before .before .before .before .before .before .before .before .before .before .before .before .enum-told .given .1))
-    (counted-done (stateOf w) m _ _ _ _ _ (opened w m _ (c .before .before .before .before .before .before .before .before .before .before .before .before .before .before .before .before .before .before .before .before .before .before .before .before .before .before .before .before .before .before .before .before .before .before .before .before .before .passed .ensures) (c .before .before .before .before .before .before .before .before .before .before .before .before .before .before .before .before .before .before .before .before .before .before .before .before .before .before .before .before .before .before .before .before .before .before .before .enum-told .given .1)) (not-refused (stateOf w) _ _ false _ _ (c .before .before .before .before .before .before .before .before .before .before .before .before .before .before .before .before .before .before .before .before .before .before .before .before .before .before .before .before .before .before .before .before .detector-of .ensures) (c .before .before .before .before .before .before .before .before .before .before .before .before .before .before .before .before .before .before .before .before .before .before .before .before .before .before .before .before .status-of .ensures) (c .before .before .before .before .before .before .before .before .before .before .before .before .before .before .before .before .before .before .before .before .before .before .before .before .before .before .before .counter-refused .ensures) (c .before .before .before .before .before .before .before .before .before .before .before .before .before .before .before .before .before .before .before .before .before .before .before .before .before .before .if1 .left)) (c .before .before .before .before .before .before .before .before .before .before .before .before .before .before .before .before .before .before .before .before .before .before .before .regs-of .ensures) (c .before .before .before .before .before .before .before .before .before .before .before .before .before .before .before .before .before .before .before .before .before .before .before .before .before .before .before .before .before .before .before .before .detector-of .ensures) (c .before .before .before .before .before .before .before .before .before .before .before .before .before .before .before .before .before .before .before .before .before .before .before .before .before .before .before .before .status-of .ensures) (c .before .before .before .before .before .before .before .before .before .before .before .before .before .before .before .before .before .before .before .before .split-of .ensures) _ _ _ _ _ (sym (c .before .before .before .before .before .before .before .before .before .before .before .before .before .before .before .before .before .before .before .counted .ensures) ∙ c .before .before .before .before .before .before .before .before .before .before .before .before .before .before .before .before .before .before .if2 .taken)
-    (c .before .before .before .before .before .before .before .before .before .before .before .before .before .before .before .before .before .count-fetch .ensures .0) (c .before .before .before .before .before .before .before .before .before .before .before .before .before .before .before .before .before .count-fetch .ensures .1 .0) (c .before .before .before .before .before .before .before .before .before .before .before .before .before .before .before .before .before .count-fetch .ensures .1 .1) (c .before .before .before .before .before .before .before .before .before .before .before .before .word-at .ensures) (c .before .before .before .before .before .before .before .before .before .before .before .counted-answer .ensures))
-    (c .before .before .before .before .before .before .before .before .put-detector .ensures .0) (c .before .before .before .before .before .before .before .before .put-detector .ensures .1)
-    (c .before .before .before .before .put-status .ensures .0) (c .before .before .before .before .put-status .ensures .1 .0) (c .before .before .before .before .put-status .ensures .1 .1)
-    (c .before .put-split .ensures .0) (c .before .put-split .ensures .1) (c .with-interrupt .ensures)
+    counted-left w _ _ _ _ _ _ _ _ _ _ _ _ (open-sound w m _ (c .before .before .before .before .before .before .before .before .before .before .before .before .before .before .before .before .before .before .before .before .before .before .before .before .before .before .before .before .before .before .before .before .before .before .before .before .before .before .before .before .before .before .known .ensures) (c .before .before .before .before .before .before .before .before .before .before .before .before .before .before .before .before .before .before .before .before .before .before .before .before .before .before .before .before .before .before .before .before .before .before .before .before .passed .ensures) (c .before .before .before .before .before .before .before .before .before .before .before .before .before .before .before .before .before .before .before .before .before .before .before .before .before .before .before .before .before .before .before .before .before .before .enum-told .given .1)) (flags-kept _ _ _ _ _ _ (c .before .before .before .before .before .before .before .before .before .before .before .before .before .before .before .before .before .before .before .before .before .before .before .before .before .before .before .status-of .ensures) (c .before .before .before .before .before .before .before .before .before .before .before .before .before .before .before .before .count-fetch .ensures .1 .0)) (split-kept _ _ _ _ _ _ _ (c .before .before .before .before .before .before .before .before .before .before .before .before .before .before .before .before .before .before .before .split-of .ensures) (c .before .before .before .before .before .before .before .before .before .before .before .before .before .before .before .before .count-fetch .ensures .1 .1))
+    (counted-done (stateOf w) m _ _ _ _ _ (opened w m _ (c .before .before .before .before .before .before .before .before .before .before .before .before .before .before .before .before .before .before .before .before .before .before .before .before .before .before .before .before .before .before .before .before .before .before .before .before .passed .ensures) (c .before .before .before .before .before .before .before .before .before .before .before .before .before .before .before .before .before .before .before .before .before .before .before .before .before .before .before .before .before .before .before .before .before .before .enum-told .given .1)) (not-refused (stateOf w) _ _ false _ _ (c .before .before .before .before .before .before .before .before .before .before .before .before .before .before .before .before .before .before .before .before .before .before .before .before .before .before .before .before .before .before .before .detector-of .ensures) (c .before .before .before .before .before .before .before .before .before .before .before .before .before .before .before .before .before .before .before .before .before .before .before .before .before .before .before .status-of .ensures) (c .before .before .before .before .before .before .before .before .before .before .before .before .before .before .before .before .before .before .before .before .before .before .before .before .before .before .counter-refused .ensures) (c .before .before .before .before .before .before .before .before .before .before .before .before .before .before .before .before .before .before .before .before .before .before .before .before .before .if1 .left)) (c .before .before .before .before .before .before .before .before .before .before .before .before .before .before .before .before .before .before .before .before .before .before .regs-of .ensures) (c .before .before .before .before .before .before .before .before .before .before .before .before .before .before .before .before .before .before .before .before .before .before .before .before .before .before .before .before .before .before .before .detector-of .ensures) (c .before .before .before .before .before .before .before .before .before .before .before .before .before .before .before .before .before .before .before .before .before .before .before .before .before .before .before .status-of .ensures) (c .before .before .before .before .before .before .before .before .before .before .before .before .before .before .before .before .before .before .before .split-of .ensures) _ _ _ _ _ (sym (c .before .before .before .before .before .before .before .before .before .before .before .before .before .before .before .before .before .before .counted .ensures) ∙ c .before .before .before .before .before .before .before .before .before .before .before .before .before .before .before .before .before .if2 .taken)
+    (c .before .before .before .before .before .before .before .before .before .before .before .before .before .before .before .before .count-fetch .ensures .0) (c .before .before .before .before .before .before .before .before .before .before .before .before .before .before .before .before .count-fetch .ensures .1 .0) (c .before .before .before .before .before .before .before .before .before .before .before .before .before .before .before .before .count-fetch .ensures .1 .1) (c .before .before .before .before .before .before .before .before .before .before .before .word-at .ensures) (c .before .before .before .before .before .before .before .before .before .before .counted-answer .ensures))
+    (c .before .before .before .before .before .before .before .put-detector .ensures .0) (c .before .before .before .before .before .before .before .put-detector .ensures .1)
+    (c .before .before .before .before .put-tiles .ensures .0) (c .before .before .before .before .put-tiles .ensures .1)
+    (c .before .put-region .ensures .0) (c .before .put-region .ensures .1) (c .with-interrupt .ensures)
 
 chosen-at-requires : tie.Need-chosen-at-requires
 chosen-at-requires c κs = search needs
-
-lengths-of-requires : tie.Need-lengths-of-requires
-lengths-of-requires c κs = search needs
 
 map-on-change-requires : tie.Need-map-on-change-requires
 map-on-change-requires c κs = search needs
@@ -115,20 +112,20 @@ word-at-requires-2 c κs = search needs
 other-answer-requires : tie.Need-other-answer-requires
 other-answer-requires c κs = search needs
 
-put-status-requires-2 : tie.Need-put-status-requires-2
-put-status-requires-2 c κs = search needs
+put-set-requires : tie.Need-put-set-requires
+put-set-requires c κs = search needs
 
 with-interrupt-requires-2 : tie.Need-with-interrupt-requires-2
 with-interrupt-requires-2 c κs = search needs
 
 returns-4 : tie.Need-returns-4
 returns-4 c =
-    let a = c .before .before .before .before .before .before .before .before .before .before .before .before .before .before .before .before .before .before .before .before .before .before .before .before .before .before .before .before .before .before .before .before .before .before .before .before .before .before .before .before .before .before .before .before .before .before .before .before .before .args in
+    let a = c .before .before .before .before .before .before .before .before .before .before .before .before .before .before .before .before .before .before .before .before .before .before .before .before .before .before .before .before .before .before .before .before .before .before .before .before .before .before .before .before .before .before .before .before .before .before .before .args in
     let w = wordsAt (a .bytes .now) (a .halves .now) (a .wide .now) (a .«prg-banks» .now) (a .«chr-banks» .now) (a .«prg-pages» .now) (a .«chr-pages» .now) in
     let m = memOf (a .prg .now) (a .chr .now) (a .ram .now) (a .ciram .now) (a .exram .now) in
-    other-left w m _ _ _ _ _ _ _ _ _ _ _ _ _ _ (open-sound w m _ (c .before .before .before .before .before .before .before .before .before .before .before .before .before .before .before .before .before .before .before .before .before .before .before .before .before .before .before .before .before .before .before .before .before .before .before .before .before .before .before .before .known .ensures) (c .before .before .before .before .before .before .before .before .before .before .before .before .before .before .before .before .before .before .before .before .before .before .before .before .before .before .before .before .before .before .before .before .before .before .passed .ensures) (c .before .before .before .before .before .before .before .before .before .before .before .before .before .before .before .before .before .before .before .before .before .before .before .before .before .before .before .before .before .before .before .before .enum-told .given .1)) (opened w m _ (c .before .before .before .before .before .before .before .before .before .before .before .before .before .before .before .before .before .before .before .before .before .before .before .before .before .before .before .before .before .before .before .before .before .before .passed .ensures) (c .before .before .before .before .before .before .before .before .before .before .before .before .before .before .before .before .before .before .before .before .before .before .before .before .before .before .before .before .before .before .before .before .enum-told .given .1)) (not-refused (stateOf w) _ _ false _ _ (c .before .before .before .before .before .before .before .before .before .before .before .before .before .before .before .before .before .before .before .before .before .before .before .before .before .before .before .before .before .detector-of .ensures) (c .before .before .before .before .before .before .before .before .before .before .before .before .before .before .before .before .before .before .before .before .before .before .before .before .before .status-of .ensures) (c .before .before .before .before .before .before .before .before .before .before .before .before .before .before .before .before .before .before .before .before .before .before .before .before .counter-refused .ensures) (c .before .before .before .before .before .before .before .before .before .before .before .before .before .before .before .before .before .before .before .before .before .before .before .if1 .left)) (sym (c .before .before .before .before .before .before .before .before .before .before .before .before .before .before .before .before .counted .ensures) ∙ c .before .before .before .before .before .before .before .before .before .before .before .before .before .before .before .if2 .left)
-    (c .before .before .before .before .before .before .before .before .before .before .before .before .before .before .before .before .before .before .before .before .regs-of .ensures) (c .before .before .before .before .before .before .before .before .before .before .before .before .before .before .before .before .before .before .before .before .before .before .before .before .before .before .before .before .before .detector-of .ensures) (c .before .before .before .before .before .before .before .before .before .before .before .before .before .before .before .before .before .before .before .before .before .before .before .before .before .status-of .ensures) (c .before .before .before .before .before .before .before .before .before .before .before .before .before .before .before .before .before .split-of .ensures) (c .before .before .before .before .before .before .before .before .before .before .before .lengths-of .ensures) (c .before .before .before .before .before .before .before .before .before .before .before .before .before .before .chosen-at .ensures) (c .before .before .before .before .before .before .before .before .map-on-change .ensures) (c .before .before .before .before .before .before .word-at2 .ensures) (c .before .before .before .before .before .other-answer .ensures)
-    (c .before .put-status2 .ensures .0) (c .before .put-status2 .ensures .1 .0) (c .before .put-status2 .ensures .1 .1) (c .with-interrupt2 .ensures)
+    other-left w m _ _ _ _ _ _ _ _ _ _ _ (open-sound w m _ (c .before .before .before .before .before .before .before .before .before .before .before .before .before .before .before .before .before .before .before .before .before .before .before .before .before .before .before .before .before .before .before .before .before .before .before .before .before .before .known .ensures) (c .before .before .before .before .before .before .before .before .before .before .before .before .before .before .before .before .before .before .before .before .before .before .before .before .before .before .before .before .before .before .before .before .passed .ensures) (c .before .before .before .before .before .before .before .before .before .before .before .before .before .before .before .before .before .before .before .before .before .before .before .before .before .before .before .before .before .before .enum-told .given .1)) (opened w m _ (c .before .before .before .before .before .before .before .before .before .before .before .before .before .before .before .before .before .before .before .before .before .before .before .before .before .before .before .before .before .before .before .before .passed .ensures) (c .before .before .before .before .before .before .before .before .before .before .before .before .before .before .before .before .before .before .before .before .before .before .before .before .before .before .before .before .before .before .enum-told .given .1)) (not-refused (stateOf w) _ _ false _ _ (c .before .before .before .before .before .before .before .before .before .before .before .before .before .before .before .before .before .before .before .before .before .before .before .before .before .before .before .detector-of .ensures) (c .before .before .before .before .before .before .before .before .before .before .before .before .before .before .before .before .before .before .before .before .before .before .before .status-of .ensures) (c .before .before .before .before .before .before .before .before .before .before .before .before .before .before .before .before .before .before .before .before .before .before .counter-refused .ensures) (c .before .before .before .before .before .before .before .before .before .before .before .before .before .before .before .before .before .before .before .before .before .if1 .left)) (sym (c .before .before .before .before .before .before .before .before .before .before .before .before .before .before .counted .ensures) ∙ c .before .before .before .before .before .before .before .before .before .before .before .before .before .if2 .left)
+    (c .before .before .before .before .before .before .before .before .before .before .before .before .before .before .before .before .before .before .regs-of .ensures) (c .before .before .before .before .before .before .before .before .before .before .before .before .before .before .before .before .before .before .before .before .before .before .before .before .before .before .before .detector-of .ensures) (c .before .before .before .before .before .before .before .before .before .before .before .before .before .before .before .before .before .before .before .before .before .before .before .status-of .ensures) (c .before .before .before .before .before .before .before .before .before .before .before .before .before .before .before .split-of .ensures) (c .before .before .before .before .before .before .before .before .before .before .before .before .chosen-at .ensures) (c .before .before .before .before .before .before .map-on-change .ensures) (c .before .before .before .before .word-at2 .ensures) (c .before .before .before .other-answer .ensures)
+    (c .before .put-set .ensures) (c .with-interrupt2 .ensures)
 
 pub mmc5-ppu-fetch-spec : {M : Type 1} → statement M
 mmc5-ppu-fetch-spec =
@@ -152,15 +149,14 @@ mmc5-ppu-fetch-spec =
     word-at-requires
     counted-answer-requires
     put-detector-requires
-    put-status-requires
-    put-split-requires
+    put-tiles-requires
+    put-region-requires
     with-interrupt-requires
     returns-3
     chosen-at-requires
-    lengths-of-requires
     map-on-change-requires
     word-at-requires-2
     other-answer-requires
-    put-status-requires-2
+    put-set-requires
     with-interrupt-requires-2
     returns-4)

@@ -1,23 +1,18 @@
--- All 64 words are tested: the loop keeps `Tested`.
-use borrow.Author.Needs.{needs}
+-- The loop keeps the furthest place of a word, and that it lies in the run just where all words so far do.
 use Prim.Native.Nat.{_-_}
-use Rattle.words.specs.Words.{pagesOf}
-use Rattle.memory.specs.Tables.{prgShows, chrShows}
-use Rattle.memory.specs.Words.{pageOf}
-use Rattle.memory.specs.declared.PageWord.{PageWord}
-use Rattle.words.proofs.MappedLaws.{numbers-next, numbers-last}
-use Rattle.memory.proofs.TableLaws.{Tested, test-first}
+use borrow.Author.Needs.{needs}
+use Rattle.words.proofs.RangeLaws.{Furthest, furthest-first, furthest-next, furthest-last}
 use Rattle.words.proofs.ranges.prg_numbers_ok.Statement.{statement}
 use Rattle.words.proofs.ranges.prg_numbers_ok.Tie as tie
 
 abbrev Inv-loop : tie.InvT-loop
-Inv-loop prg-len ram-len numbers ok₀ i₀ ok i = Tested (λ (w : PageWord). prgShows prg-len ram-len (pageOf w)) (pagesOf numbers) ok i
+Inv-loop prg-len ram-len numbers furthest₀ i₀ furthest i = Furthest prg-len ram-len numbers furthest i
 
 abbrev μ-loop : tie.MeasureT-loop
-μ-loop prg-len ram-len numbers ok₀ i₀ ok i = 64 - i
+μ-loop prg-len ram-len numbers furthest₀ i₀ furthest i = 64 - i
 
 loop-holds : tie.Need-loop-holds Inv-loop μ-loop
-loop-holds c = test-first _ _
+loop-holds c = furthest-first (c .args .«prg-len») (c .args .«ram-len») (c .pre .0) (c .pre .1 .0) (c .args .numbers .now)
 
 mul-n : tie.Need-mul-n Inv-loop μ-loop
 mul-n c = search needs
@@ -25,8 +20,11 @@ mul-n c = search needs
 element-copy-out-n : tie.Need-element-copy-out-n Inv-loop μ-loop
 element-copy-out-n c = search needs
 
-prg-word-ok-requires : tie.Need-prg-word-ok-requires Inv-loop μ-loop
-prg-word-ok-requires c κs = search needs
+prg-place-requires : tie.Need-prg-place-requires Inv-loop μ-loop
+prg-place-requires c κs = search needs
+
+larger-requires : tie.Need-larger-requires Inv-loop μ-loop
+larger-requires c κs = search needs
 
 add-i : tie.Need-add-i Inv-loop μ-loop
 add-i c = search needs
@@ -35,10 +33,14 @@ loop-less : tie.Need-loop-less Inv-loop μ-loop
 loop-less c = search needs
 
 loop-again : tie.Need-loop-again Inv-loop μ-loop
-loop-again c = numbers-next _ (c .before .before .before .before .args .numbers .now) _ _ 64 _ (c .before .before .before .loop .inv) (c .before .before .loop-test .taken) (search needs) (c .prg-word-ok .ensures)
+loop-again c =
+    furthest-next _ _ (c .before .before .before .before .before .pre .0) (c .before .before .before .before .before .pre .1 .0) (c .before .before .before .before .before .args .numbers .now) _ _ _ _ (c .before .before .before .before .loop .inv) (c .before .before .before .loop-test .taken) (c .before .before .before .before .before .pre .1 .1) (c .before .prg-place .ensures .1) (c .before .prg-place .ensures .0) (c .larger .ensures)
+
+prg-places-requires : tie.Need-prg-places-requires Inv-loop μ-loop
+prg-places-requires c κs = search needs
 
 returns : tie.Need-returns Inv-loop μ-loop
-returns c = numbers-last _ (c .before .before .args .numbers .now) _ _ 64 (c .before .loop .inv) (c .loop-test .left) (search needs)
+returns c = furthest-last _ _ (c .before .before .before .pre .0) (c .before .before .before .pre .1 .0) (c .before .before .before .args .numbers .now) _ _ _ (c .before .before .loop .inv) (c .before .loop-test .left) (c .before .before .before .pre .1 .1) (c .prg-places .ensures)
 
 pub prg-numbers-ok-spec : {M : Type 1} → statement M
 prg-numbers-ok-spec =
@@ -49,8 +51,10 @@ prg-numbers-ok-spec =
     loop-holds
     mul-n
     element-copy-out-n
-    prg-word-ok-requires
+    prg-place-requires
+    larger-requires
     add-i
     loop-less
     loop-again
+    prg-places-requires
     returns)
