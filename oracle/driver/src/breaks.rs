@@ -6,9 +6,9 @@ use oracle::{generate::random::Random, trace::Record};
 
 /// Breaks one thing; tells its name and the refusal that calls over memory must give.
 fn broken(random: &mut Random, s: &mut State) -> (&'static str, u8) {
-    let chr_pages = s.wide[1] / 1_024;
-    let ram_pages = s.wide[2] / 1_024;
-    let prg_pages = s.wide[0] / 1_024;
+    let chr_pages = (s.wide[1] / 1_024) as u16;
+    let ram_pages = (s.wide[2] / 1_024) as u16;
+    let prg_pages = (s.wide[0] / 1_024) as u16;
     match random.below(22) {
         0 => {
             s.bytes[random.below(15)] = 2 + random.byte() % 254;
@@ -77,28 +77,28 @@ fn broken(random: &mut Random, s: &mut State) -> (&'static str, u8) {
             ("CIRAM or ExRAM length", 4)
         }
         16 => {
-            s.prg_pages[random.below(64)] = 3 + prg_pages + random.below(1_000) as u32;
+            s.prg_pages[random.below(64)] = 3 + prg_pages + random.below(1_000) as u16;
             ("PRG page past PRG-ROM", 5)
         }
         17 => {
-            s.prg_pages[random.below(64)] = u32::MAX - 2 * ram_pages - random.below(100) as u32;
+            s.prg_pages[random.below(64)] = u16::MAX - 2 * ram_pages - random.below(100) as u16;
             ("PRG page past PRG-RAM", 5)
         }
         18 => {
-            s.chr_pages[random.below(16)] = 2_055 + chr_pages + random.below(1_000) as u32;
+            s.chr_pages[random.below(16)] = 2_055 + chr_pages + random.below(1_000) as u16;
             ("CHR page past CHR", 5)
         }
         19 => {
-            s.chr_pages[random.below(16)] = 3 + random.below(1_024) as u32;
+            s.chr_pages[random.below(16)] = 3 + random.below(1_024) as u16;
             ("CHR page that shows PRG-ROM", 5)
         }
         20 => {
-            s.prg_pages[random.below(64)] = 1_027 + random.below(1_028) as u32 + prg_pages;
+            s.prg_pages[random.below(64)] = 1_027 + random.below(1_028) as u16 + prg_pages;
             ("PRG page that shows CHR", 5)
         }
         _ => {
             let writable = s.bytes[1] == 1;
-            s.chr_pages[random.below(16)] = if writable { 2_050 - chr_pages.min(1_023) - u32::from(chr_pages < 1_024) } else { 2_050 };
+            s.chr_pages[random.below(16)] = if writable { 2_050 - chr_pages.min(1_023) - u16::from(chr_pages < 1_024) } else { 2_050 };
             if writable && chr_pages >= 1_023 {
                 s.chr_pages[0] = 1_026;
             }
