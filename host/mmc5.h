@@ -8,7 +8,7 @@
 #include <stddef.h>
 #include <stdint.h>
 
-/* The state: 408 bytes that the host lends to each call and keeps between calls. All zero is a state that is not loaded. */
+/* The state: 248 bytes that the host lends to each call and keeps between calls. All zero is a state that is not loaded. */
 typedef struct mmc5_state {
     uint32_t wide[6];
     uint16_t prg_pages[64];
