@@ -1,39 +1,33 @@
 -- A replay over lent words, put together from what its steps give; how large its numbers are; what it leaves where it stops at place 0.
-use Prim.Native.Nat.{ℕ, zero, suc, _+_, _*_, _/_, _%_, _<_, _≤_}
+use Prim.Native.Nat.{ℕ, zero, suc, _+_, _*_, _%_, _<_, _≤_}
 use mathlib.Core.Bool.{Bool, true, false, not}
 use mathlib.Core.List.{List}
 use mathlib.Core.Path.{_≡_, refl, sym, _∙_, ap, subst}
 use native.Mathlib.Omega.{arith}
 use borrow.Author.Tests.{ltb-false}
-use lib.Dec.{ltb}
 use lib.ListN.{length}
 use Rattle.memory.specs.Bytes.{Mem}
 use Rattle.memory.specs.Words.{pick}
 use Rattle.memory.proofs.Tests.{split}
-use Rattle.answers.specs.declared.Answer.{Answer}
-use Rattle.answers.specs.declared.Answer.the-variants.{Nothing, Register, Served, Page, Blank, Refused}
 use Rattle.answers.specs.declared.Refusal.{Refusal}
-use Rattle.answers.specs.declared.Refusal.the-variants.{Length}
 use Rattle.answers.specs.Numbers.{numberOf}
 use Rattle.state.specs.declared.gate.Gate.{Gate}
 use Rattle.state.specs.declared.gate.Gate.the-variants.{Open, Shut}
 use Rattle.state.specs.declared.State.{State}
 use Rattle.state.specs.Gate.{gateMem}
 use Rattle.board.specs.Outcomes.{behind}
-use Rattle.trace.specs.declared.Call.{Call}
-use Rattle.trace.specs.declared.Found.{Found}
-use Rattle.trace.specs.declared.Found.the-variants.{End, Record, Refused as Unreadable}
 use Rattle.trace.specs.Records.{recordAt, tooLong}
 use Rattle.trace.proofs.RecordLaws.{record-advances}
 use Rattle.calls.specs.Called.{called}
 use Rattle.player.specs.declared.Ending.{Ending}
 use Rattle.player.specs.declared.Ending.the-variants.{Done, Stopped}
 use Rattle.player.specs.declared.Replayed.{Replayed}
-use Rattle.player.specs.Replay.{Left, leftOf, ended, answered, found, playedFrom, played, replayed}
+use Rattle.player.specs.Replay.{Left, leftOf, ended, playedFrom, replayed}
+use Rattle.player.proofs.Ways.{by-found, by-answer}
 use Rattle.words.specs.Words.{Words, good, stateOf, wordsOf}
 use Rattle.words.proofs.RoundLaws.{words-back}
 use Rattle.host_replay.specs.Promise.{Apart, Lent, Promised}
-use Rattle.host_replay.specs.Replays.{Hosted, endingTold, lastOf, refusalIn, hostedOf, hosting, replayOn}
+use Rattle.host_replay.specs.Replays.{Hosted, endingTold, lastOf, hostedOf, hosting, replayOn}
 
 pub too-long-stays : (w : Words) (trace : List ℕ) (m : Mem) (log : List ℕ) (b : Bool) → b ≡ tooLong (length trace) → b ≡ true
     → hostedOf 720896 w m log ≡ replayOn w trace m log
@@ -50,21 +44,6 @@ pub replay-left : (w v : Words) (trace : List ℕ) (m m′ : Mem) (log log′ : 
     → n ≡ endingTold (o .ending) → hostedOf n v m′ log′ ≡ replayOn w trace m log
 unfolding replayOn
 replay-left w v trace m m′ log log′ b g s o n eb tb e t es eo ev en = rw (← eb, tb, ← e, t, en, ev, ← es, ← eo)
-
--- What holds of each way on from a record holds of all.
-by-found : (P : Left → Type 0) (r : Found) (done : Left) (stop : Refusal → Left) (play : Call → ℕ → Left)
-    → P done → ((why : Refusal) → P (stop why)) → ((call : Call) (next : ℕ) → r ≡ Record call next → P (play call next)) → P (found r done stop play)
-by-found P End done stop play d s p = d
-by-found P (Unreadable why) done stop play d s p = s why
-by-found P (Record call next) done stop play d s p = p call next refl
-
-by-answer : (P : Left → Type 0) (a : Answer) (stop : Refusal → Left) (go : Left) → ((why : Refusal) → P (stop why)) → P go → P (answered a stop go)
-by-answer P (Refused why) stop go s g = s why
-by-answer P Nothing stop go s g = g
-by-answer P (Register v) stop go s g = g
-by-answer P (Served v) stop go s g = g
-by-answer P (Page v) stop go s g = g
-by-answer P Blank stop go s g = g
 
 by-gate : (P : Left → Type 0) (g : Gate) (shut : Refusal → Left) (go : Left) → ((why : Refusal) → P (shut why)) → P go → P (behind g shut go)
 by-gate P Open shut go s g = g
