@@ -1,5 +1,5 @@
-/* The board for a host in C: the functions of target/staticlib/libhost.a (`rt staticlib host`). docs/HOST.md says what each number means and
- * what the host must keep. The functions allocate nothing, keep nothing and trust nothing beyond each pointer and its length: an array has
+/* The board for a host in C: the functions of target/staticlib/libhost.a (`rt staticlib host`), and `mmc5_replay` of libhost_replay.a beside it
+ * (`rt staticlib host_replay`); a program links one or both. docs/HOST.md says what each number means and what the host must keep. The functions allocate nothing, keep nothing and trust nothing beyond each pointer and its length: an array has
  * the length that stands in its brackets, a buffer the length given after it, and a pointer is never null, at length 0 too. No two lent
  * arrays or buffers overlap where one of them is written. */
 #ifndef MMC5_H
@@ -8,7 +8,7 @@
 #include <stddef.h>
 #include <stdint.h>
 
-/* The state: 408 bytes that the host lends to each call and keeps between calls. All zero is a state that is not loaded. */
+/* The state: 248 bytes that the host lends to each call and keeps between calls. All zero is a state that is not loaded. */
 typedef struct mmc5_state {
     uint32_t wide[6];
     uint16_t prg_pages[64];
@@ -38,6 +38,13 @@ typedef struct mmc5_memory {
 #define MMC5_LETTER(told) ((char)((told) >> 8 & 0x7F))
 #define MMC5_INTERRUPT(told) ((told) >> 15 & 1)
 #define MMC5_REFUSED(told) (MMC5_LETTER(told) == '!')
+
+/* A replay's number: the refusal, 0 where the trace was played to its end; the place of the refused record's kind byte, or the records played. */
+#define MMC5_STOPPED(number) ((uint8_t)((number) >> 16))
+#define MMC5_PLACE(number) ((size_t)((number)&0xFFFF))
+
+/* A replay's log has two bytes for each record that was played: record n's answer, as a call would tell it, is this. */
+#define MMC5_LOGGED(log, n) ((uint32_t)(log)[2 * (n)] << 8 | (log)[2 * (n) + 1])
 
 uint32_t mmc5_load(
     uint8_t bytes[33],
@@ -296,6 +303,28 @@ uint32_t mmc5_ppu_page(
     uint16_t addr,
     uint8_t *out,
     size_t out_len);
+uint32_t mmc5_replay(
+    uint8_t bytes[33],
+    uint16_t halves[5],
+    uint32_t wide[6],
+    uint8_t prg_banks[5],
+    uint8_t chr_banks[16],
+    uint16_t prg_pages[64],
+    uint16_t chr_pages[16],
+    const uint8_t *prg,
+    size_t prg_len,
+    uint8_t *chr,
+    size_t chr_len,
+    uint8_t *ram,
+    size_t ram_len,
+    uint8_t *ciram,
+    size_t ciram_len,
+    uint8_t *exram,
+    size_t exram_len,
+    const uint8_t *trace,
+    size_t trace_len,
+    uint8_t *log,
+    size_t log_len);
 
 /* The same over the two structs. */
 static inline uint32_t mmc5_on_load(mmc5_state *s, const mmc5_memory *m, uint8_t chr_writable, uint8_t mirroring) {
@@ -348,6 +377,9 @@ static inline uint32_t mmc5_on_cpu_page(const mmc5_state *s, const mmc5_memory *
 }
 static inline uint32_t mmc5_on_ppu_page(const mmc5_state *s, const mmc5_memory *m, uint16_t addr, uint8_t out[1024]) {
     return mmc5_ppu_page(s->bytes, s->halves, s->wide, s->prg_banks, s->chr_banks, s->prg_pages, s->chr_pages, m->prg, m->prg_len, m->chr, m->chr_len, m->ram, m->ram_len, m->ciram, m->ciram_len, m->exram, m->exram_len, addr, out, 1024);
+}
+static inline uint32_t mmc5_on_replay(mmc5_state *s, const mmc5_memory *m, const uint8_t *trace, size_t trace_len, uint8_t *log, size_t log_len) {
+    return mmc5_replay(s->bytes, s->halves, s->wide, s->prg_banks, s->chr_banks, s->prg_pages, s->chr_pages, m->prg, m->prg_len, m->chr, m->chr_len, m->ram, m->ram_len, m->ciram, m->ciram_len, m->exram, m->exram_len, trace, trace_len, log, log_len);
 }
 
 #endif

@@ -1,4 +1,4 @@
-//! Says where the static library lies: `MMC5_LIB`, or target/staticlib of the repository.
+//! Says where the two static libraries lie: `MMC5_LIB`, or target/staticlib of the repository.
 
 use std::{env, path::PathBuf};
 
@@ -7,7 +7,9 @@ fn main() {
     let default = here.join("../../target/staticlib");
     let folder = env::var("MMC5_LIB").map_or(default, PathBuf::from);
     println!("cargo:rerun-if-env-changed=MMC5_LIB");
-    println!("cargo:rerun-if-changed={}", folder.join("libhost.a").display());
     println!("cargo:rustc-link-search=native={}", folder.display());
-    println!("cargo:rustc-link-lib=static=host");
+    for name in ["host", "host_replay"] {
+        println!("cargo:rerun-if-changed={}", folder.join(format!("lib{name}.a")).display());
+        println!("cargo:rustc-link-lib=static={name}");
+    }
 }

@@ -2,3 +2,4 @@ pub mod Letters
 pub mod Steps
 pub mod Arms
 pub mod Fuel
+pub mod Ways

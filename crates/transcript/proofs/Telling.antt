@@ -29,25 +29,11 @@ use Rattle.calls.specs.Called.{called}
 use Rattle.promises.specs.Refused.{isRefused}
 use Rattle.promises.proofs.Refusals.{Given}
 use Rattle.player.specs.Logs.{logLetter, logged}
-use Rattle.player.specs.Replay.{Left, found, answered, playedFrom}
+use Rattle.player.specs.Replay.{Left, playedFrom}
 use Rattle.player.proofs.Steps.{answered-given, logged-length}
+use Rattle.player.proofs.Ways.{by-found, by-answer}
 use Rattle.transcript.specs.Printed.{stoppedAt, printedFrom}
 use Rattle.transcript.specs.Told.{toldFrom, PrintedIsTold}
-
--- What holds of each way on from a record holds of all.
-by-found : (P : Left → Type 0) (r : Found) (done : Left) (stop : Refusal → Left) (play : Call → ℕ → Left)
-    → P done → ((why : Refusal) → P (stop why)) → ((call : Call) (next : ℕ) → r ≡ Record call next → P (play call next)) → P (found r done stop play)
-by-found P End done stop play d s p = d
-by-found P (Unreadable why) done stop play d s p = s why
-by-found P (Record call next) done stop play d s p = p call next refl
-
-by-answer : (P : Left → Type 0) (a : Answer) (stop : Refusal → Left) (go : Left) → ((why : Refusal) → P (stop why)) → P go → P (answered a stop go)
-by-answer P (Refused why) stop go s g = s why
-by-answer P Nothing stop go s g = g
-by-answer P (Register v) stop go s g = g
-by-answer P (Served v) stop go s g = g
-by-answer P (Page v) stop go s g = g
-by-answer P Blank stop go s g = g
 
 -- A replay stops no sooner than where it begins.
 abbrev NotBefore : ℕ → Left → Type 0

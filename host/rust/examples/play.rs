@@ -1,21 +1,20 @@
-//! play: loads document 01's cartridge and plays the trace on standard input, one call for each record. It prints what the program `replay`
-//! prints. An example of a server in Rust: all memory is its own.
+//! play: loads document 01's cartridge, plays the trace on standard input in one call and prints by the log what the program `replay` prints.
+//! An example of a server in Rust: all memory is its own.
 
-use mmc5::{Answer, Memory, State};
+use mmc5::{Answer, Memory, State, Stopped, logged};
 use std::io::Read;
 
-/// A number in groups of seven bits, shortest form, at most so many of them.
-fn number(trace: &[u8], at: &mut usize, groups: usize, most: u32) -> Option<u32> {
-    let mut n = 0;
-    for group in 0..groups {
-        let byte = *trace.get(*at)?;
-        *at += 1;
-        n |= u32::from(byte & 0x7F) << (7 * group);
-        if byte < 0x80 {
-            return ((byte != 0 || group == 0) && n <= most).then_some(n);
-        }
+/// The numbers that follow a record's kind byte.
+const NUMBERS: [usize; 7] = [0, 1, 2, 2, 1, 0, 2];
+
+/// The place after a record that was played: the last byte of each of its numbers is below 128.
+fn after(trace: &[u8], at: usize) -> usize {
+    let (mut next, mut left) = (at + 1, NUMBERS[usize::from(trace[at])]);
+    while left > 0 {
+        left -= usize::from(trace[next] < 128);
+        next += 1;
     }
-    None
+    next
 }
 
 fn main() {
@@ -33,34 +32,17 @@ fn main() {
     s.load(&m, false, 0).expect("document 01's cartridge loads");
     let mut trace = Vec::new();
     std::io::stdin().read_to_end(&mut trace).expect("standard input is read");
-    if trace.len() > 8_192 {
+    let mut log = vec![0; 2 * 8_192];
+    let ending = s.replay(&mut m, &trace, &mut log);
+    if let Err(Stopped { refusal: 11, .. }) = ending {
         println!("? 11");
         return;
     }
+    let end = ending.map_or_else(|stopped| stopped.place, |_| trace.len());
     let (mut at, mut count) = (0, 0);
-    while at < trace.len() {
+    while at < end {
         let kind = trace[at];
-        let mut next = at + 1;
-        if kind > 6 {
-            println!("{count} ? 9");
-            return;
-        }
-        let mut read = |wanted: bool, groups, most| if wanted { number(&trace, &mut next, groups, most) } else { Some(0) };
-        let addr = read(!matches!(kind, 0 | 5), 3, 65_535);
-        let val = addr.and_then(|_| read(matches!(kind, 2 | 3 | 6), 2, 255));
-        let (Some(addr), Some(val)) = (addr.map(|n| n as u16), val.map(|n| n as u8)) else {
-            println!("{count} ? 10");
-            return;
-        };
-        let told = match kind {
-            0 => s.clock(),
-            1 => s.cpu_read(&m, addr),
-            2 => s.cpu_write(&mut m, addr, val),
-            3 => s.ppu_register(addr, val),
-            4 => s.ppu_fetch(&m, addr),
-            5 => s.reset(),
-            _ => s.ppu_write(&mut m, addr, val),
-        };
+        let told = logged(&log, count).expect("a record has at least one byte, so the log has room");
         let up = u8::from(told.interrupt);
         match told.answer {
             Answer::None => println!("{count} {kind} - {up}"),
@@ -68,13 +50,14 @@ fn main() {
             Answer::Served(val) => println!("{count} {kind} S {val} {up}"),
             Answer::Page(val) => println!("{count} {kind} M {val} {up}"),
             Answer::Blank => println!("{count} {kind} B {up}"),
-            Answer::Refused(number) => {
-                println!("{count} {kind} ! {number}");
-                return;
-            }
+            Answer::Refused(_) => unreachable!("a refused record is not logged"),
         }
-        at = next;
+        at = after(&trace, at);
         count += 1;
     }
-    println!("end {count}");
+    match ending {
+        Ok(played) => println!("end {played}"),
+        Err(Stopped { refusal: refusal @ 9.., .. }) => println!("{count} ? {refusal}"),
+        Err(Stopped { place, refusal }) => println!("{count} {} ! {refusal}", trace[place]),
+    }
 }

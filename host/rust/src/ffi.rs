@@ -275,4 +275,27 @@ unsafe extern "C" {
         out: *mut u8,
         out_len: usize,
     ) -> u32;
+    pub fn mmc5_replay(
+        bytes: *mut u8,
+        halves: *mut u16,
+        wide: *mut u32,
+        prg_banks: *mut u8,
+        chr_banks: *mut u8,
+        prg_pages: *mut u16,
+        chr_pages: *mut u16,
+        prg: *const u8,
+        prg_len: usize,
+        chr: *mut u8,
+        chr_len: usize,
+        ram: *mut u8,
+        ram_len: usize,
+        ciram: *mut u8,
+        ciram_len: usize,
+        exram: *mut u8,
+        exram_len: usize,
+        trace: *const u8,
+        trace_len: usize,
+        log: *mut u8,
+        log_len: usize,
+    ) -> u32;
 }

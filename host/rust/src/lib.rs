@@ -1,6 +1,6 @@
 //! The board for a server in Rust: every call over a state and five buffers that the server owns.
 //!
-//! The work is done by the proved static library. Each of its calls takes whatever the state holds and
+//! The work is done by the proved static libraries. Each of their calls takes whatever the state holds and
 //! refuses with document 01's numbers; it allocates nothing, keeps nothing, and reads and writes only what
 //! is lent here. So nothing in this crate has to be believed but the pointers and lengths that it hands on.
 
@@ -53,6 +53,20 @@ pub struct Entry {
     pub source: u8,
     pub index: u16,
     pub writable: bool,
+}
+
+/// Where a replay stopped: the place of the refused record's kind byte, and the refusal's number. The records before it were played.
+#[derive(Clone, Copy, Debug, PartialEq, Eq)]
+pub struct Stopped {
+    pub place: usize,
+    pub refusal: u8,
+}
+
+/// What record `n` (from 0) of a replay answered, by the replay's log; none past the log's end. A record that was played has two bytes: the
+/// answer's letter (`-` none, `R` register, `S` served, `M` page, `B` blank) with the interrupt in the top bit, then the value.
+pub fn logged(log: &[u8], n: usize) -> Option<Told> {
+    let pair = log.get(2 * n..2 * n + 2)?;
+    Some(told(u32::from(pair[0]) << 8 | u32::from(pair[1])))
 }
 
 fn told(number: u32) -> Told {
@@ -193,6 +207,14 @@ impl State {
 
     pub fn reset(&mut self) -> Told {
         told(on!(mmc5_reset, mut self))
+    }
+
+    /// Plays a trace of at most 8,192 bytes in one call: the records played, or where it stopped. Each record that was played leaves two
+    /// bytes in the log (see [`logged`]); what finds no room there is dropped, so an empty log will do. What lies past those bytes stays.
+    pub fn replay(&mut self, m: &mut Memory<'_>, trace: &[u8], log: &mut [u8]) -> Result<usize, Stopped> {
+        let number = writing!(mmc5_replay, self, m; trace.as_ptr(), trace.len(), log.as_mut_ptr(), log.len());
+        let (refusal, place) = ((number >> 16) as u8, usize::from(number as u16));
+        if refusal == 0 { Ok(place) } else { Err(Stopped { place, refusal }) }
     }
 
     /// The mirroring by number, or a refusal's number.

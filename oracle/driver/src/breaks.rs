@@ -1,8 +1,15 @@
-//! States with one range broken, words that are no state, and lent lengths that differ: every call refuses, and nothing changes.
+//! States with one range broken, words that are no state, and lent lengths that differ: every call and every replay refuses, and nothing
+//! changes.
 
-use crate::pair::{Buffers, Pair};
-use mmc5::{Answer, State};
-use oracle::{generate::random::Random, trace::Record};
+use crate::{
+    pair::{Buffers, Pair},
+    replays,
+};
+use mmc5::{Answer, State, Stopped};
+use oracle::{
+    generate::random::Random,
+    trace::{LONGEST, Record},
+};
 
 /// Breaks one thing; tells its name and the refusal that calls over memory must give.
 fn broken(random: &mut Random, s: &mut State) -> (&'static str, u8) {
@@ -156,13 +163,32 @@ fn refused(random: &mut Random, s: &State, buffers: &Buffers, name: &str, number
     Ok(())
 }
 
+/// Replays: an empty trace, a short one and one that cannot be read give the refusal at place 0; one that is too long gives 11 before.
+fn replay_refused(random: &mut Random, s: &State, buffers: &Buffers, name: &str, number: u8, seen: &mut replays::Seen) -> Result<(), String> {
+    let traces = [(vec![], number), (vec![0, 5, 0], number), (vec![random.byte(); 9], number), (vec![0; LONGEST], number), (vec![0; LONGEST + 1], 11)];
+    for (trace, refusal) in traces {
+        let (mut t, mut b, mut log) = (s.clone(), buffers.clone(), vec![0xA5; 64]);
+        let told = t.replay(&mut b.lent(), &trace, &mut log);
+        if told != Err(Stopped { place: 0, refusal }) {
+            return Err(format!("{name}: replay gives {told:?}, not {refusal}"));
+        }
+        if t != *s || b != *buffers || log != [0xA5; 64] {
+            return Err(format!("{name}: a refused replay changed something"));
+        }
+        seen.replays += 1;
+        seen.endings[usize::from(refusal)] += 1;
+    }
+    Ok(())
+}
+
 /// One broken state, and one wrong lent length.
-pub fn compare(random: &mut Random, pair: &Pair) -> Result<usize, String> {
+pub fn compare(random: &mut Random, pair: &Pair, seen: &mut replays::Seen) -> Result<usize, String> {
     let mut s = pair.state.clone();
     let (name, number) = broken(random, &mut s);
     // A length that differs is refused with 4 by calls over memory; by the others with 5, if at all.
     let memoryless = if number == 4 { 0 } else { 5 };
     refused(random, &s, &pair.buffers, name, number, memoryless)?;
+    replay_refused(random, &s, &pair.buffers, name, number, seen)?;
     let mut buffers = pair.buffers.clone();
     let which = random.below(5);
     if buffers.0[which].is_empty() || random.once_in(2) {
@@ -171,5 +197,6 @@ pub fn compare(random: &mut Random, pair: &Pair) -> Result<usize, String> {
         buffers.0[which].pop();
     }
     refused(random, &pair.state, &buffers, "lent length", 4, 0)?;
+    replay_refused(random, &pair.state, &buffers, "lent length", 4, seen)?;
     Ok(20)
 }

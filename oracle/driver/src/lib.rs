@@ -3,4 +3,5 @@
 pub mod breaks;
 pub mod cartridges;
 pub mod pair;
+pub mod replays;
 pub mod speed;

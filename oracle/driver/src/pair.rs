@@ -128,6 +128,14 @@ impl Pair {
         Ok(taken)
     }
 
+    /// The port's state and buffers here and where the same records were played by one replay: word by word and byte by byte the same.
+    pub fn same(&self, replayed: &Pair) -> Result<(), String> {
+        if self.state != replayed.state || self.buffers != replayed.buffers {
+            return Err("replay and single calls leave different words or bytes".into());
+        }
+        Ok(())
+    }
+
     /// What the Rust's page is, in the port's numbers.
     fn entry(&self, page: Page) -> mmc5::Entry {
         match show::source(&self.rust, page) {
@@ -148,11 +156,7 @@ impl Pair {
     /// all addresses.
     pub fn whole(&mut self) -> Result<(), String> {
         self.tables()?;
-        for (buffer, (src, name)) in BUFFERS.into_iter().enumerate() {
-            if self.rust.memory.region_ref(src) != self.buffers.0[buffer] {
-                return Err(format!("bytes of {name}"));
-            }
-        }
+        self.bytes()?;
         let mirroring = MIRRORINGS.iter().position(|(m, _)| *m == self.rust.mirroring());
         if self.state.mirroring().ok().map(usize::from) != mirroring {
             return Err(format!("mirroring {:?}, the Rust {mirroring:?}", self.state.mirroring()));
@@ -168,6 +172,16 @@ impl Pair {
                 if ours != theirs {
                     return Err(format!("{name} {addr:04X}: the Rust {theirs:?}, the port {ours:?}"));
                 }
+            }
+        }
+        Ok(())
+    }
+
+    /// All lent bytes.
+    pub fn bytes(&self) -> Result<(), String> {
+        for (buffer, (src, name)) in BUFFERS.into_iter().enumerate() {
+            if self.rust.memory.region_ref(src) != self.buffers.0[buffer] {
+                return Err(format!("bytes of {name}"));
             }
         }
         Ok(())

@@ -1,14 +1,15 @@
 //! bench [PASSES]: the Rust and the port on the same traces in one process. Its last line is `ratio: replay R, call C`.
 //!
 //! The Rust is called without any test of ours: the register, then the page. The port is called through the host boundary, where each
-//! single call checks the lent lengths and the whole state.
+//! single call checks the lent lengths and the whole state. Of replay, the Rust reads the trace record by record and logs nothing; the port is
+//! one call for each trace of at most 8,192 bytes, and logs every answer.
 
 use driver::{
     pair::{self, Buffers},
     speed::{Mix, median, mixes},
 };
 use mmc5::State;
-use oracle::{board::Board, cartridge::Cartridge, common::ResetKind, mapper::Map, trace::Record};
+use oracle::{board::Board, cartridge::Cartridge, common::ResetKind, mapper::Map, trace::{LONGEST, Reader, Record}};
 use std::{env, hint::black_box, time::Instant};
 
 /// One record on the Rust, as a console's bus makes the call.
@@ -74,6 +75,37 @@ fn calls(mix: &Mix, records: &[Record], passes: usize) -> (f64, f64) {
     (median(&mut theirs), median(&mut ours))
 }
 
+/// Median ns a record of the mix's traces, each replayed whole, both boards.
+fn replays(mix: &Mix, passes: usize) -> (f64, f64) {
+    let rounds = (400_000 / mix.records.len().max(1)).max(1);
+    let played = (rounds * mix.records.len()) as f64;
+    let (mut theirs, mut ours) = (Vec::new(), Vec::new());
+    let mut log = vec![0; 2 * LONGEST];
+    for _ in 0..passes {
+        let (mut board, mut state, mut buffers) = loaded(mix.cartridge);
+        let start = Instant::now();
+        for _ in 0..rounds {
+            for trace in &mix.traces {
+                let mut reader = Reader::new(black_box(trace)).expect("short enough");
+                while let Ok(Some(record)) = reader.next_record() {
+                    black_box(rust_call(&mut board, record));
+                }
+            }
+        }
+        theirs.push(start.elapsed().as_nanos() as f64 / played);
+        let mut count = 0;
+        let start = Instant::now();
+        for _ in 0..rounds {
+            for trace in &mix.traces {
+                count += state.replay(&mut buffers.lent(), black_box(trace), &mut log).expect("every record was taken before");
+            }
+        }
+        ours.push(start.elapsed().as_nanos() as f64 / played);
+        assert_eq!(count, rounds * mix.records.len());
+    }
+    (median(&mut theirs), median(&mut ours))
+}
+
 fn row(mix: &str, what: &str, (theirs, ours): (f64, f64)) -> f64 {
     println!("{mix:<16} {what:<14} {theirs:>8.1} {ours:>8.1} {:>7.2}", ours / theirs);
     ours / theirs
@@ -82,8 +114,9 @@ fn row(mix: &str, what: &str, (theirs, ours): (f64, f64)) -> f64 {
 fn main() {
     let passes = env::args().nth(1).map_or(9, |word| word.parse().expect("a number"));
     println!("{:<16} {:<14} {:>8} {:>8} {:>7}", "mix", "what", "Rust ns", "port ns", "ratio");
-    let mut worst_call: f64 = 0.0;
+    let (mut worst_replay, mut worst_call): (f64, f64) = (0.0, 0.0);
     for mix in mixes() {
+        worst_replay = worst_replay.max(row(mix.name, "replay", replays(&mix, passes)));
         let all = row(mix.name, "single call", calls(&mix, &mix.records, passes));
         worst_call = worst_call.max(all);
         for (name, kind) in [("clock", 0), ("read", 1), ("write", 2), ("fetch", 4)] {
@@ -93,5 +126,5 @@ fn main() {
             }
         }
     }
-    println!("ratio: replay -, call {worst_call:.2}");
+    println!("ratio: replay {worst_replay:.2}, call {worst_call:.2}");
 }

@@ -1,6 +1,6 @@
 //! compare [RECORDS] [SEED]: both boards are given the same calls. Its last line is `compared N records, D differences`.
 
-use driver::{breaks, cartridges, pair};
+use driver::{breaks, cartridges, pair, replays};
 use oracle::{
     generate::{self, random::Random},
     trace::Reader,
@@ -18,6 +18,7 @@ struct Seen {
     loads_refused: u64,
     broken: u64,
     differences: u64,
+    replays: replays::Seen,
 }
 
 impl Seen {
@@ -48,11 +49,13 @@ fn trace(random: &mut Random, seen: &mut Seen) -> Result<(), String> {
     let records = 1 + random.below(3_000);
     let bytes = generate::trace(kind, random.next(), records).expect("a kind");
     seen.traces += 1;
+    let replayed = replays::compare(random, &pair, &bytes, &mut seen.replays).map_err(|why| format!("{kind}: {why}"))?;
     let Ok(mut reader) = Reader::new(&bytes) else {
         return Ok(());
     };
     let every = 200 + random.below(1_800);
     let mut since = 0;
+    let mut stopped = false;
     while let Ok(Some(record)) = reader.next_record() {
         seen.records += 1;
         seen.calls += 1;
@@ -66,16 +69,23 @@ fn trace(random: &mut Random, seen: &mut Seen) -> Result<(), String> {
         }
         if !taken {
             seen.refused += 1;
+            if !stopped {
+                stopped = true;
+                pair.same(&replayed).map_err(|why| format!("{kind}: {why}"))?;
+            }
             if kind != "wild" {
                 break;
             }
         }
     }
+    if !stopped {
+        pair.same(&replayed).map_err(|why| format!("{kind}: {why}"))?;
+    }
     pair.whole().map_err(|why| format!("{kind}: {why}"))?;
     seen.wholes += 1;
     for _ in 0..4 {
         seen.broken += 1;
-        seen.calls += breaks::compare(random, &pair)? as u64;
+        seen.calls += breaks::compare(random, &pair, &mut seen.replays)? as u64;
     }
     Ok(())
 }
@@ -109,6 +119,11 @@ fn main() {
         seen.wholes,
         seen.broken,
         start.elapsed().as_secs()
+    );
+    let e = seen.replays.endings;
+    println!(
+        "replays: {} traces, {} records played; {} to their end, refused by 4: {}, 5: {}, 6: {}, 7: {}, 9: {}, 10: {}, 11: {}",
+        seen.replays.replays, seen.replays.records, e[0], e[4], e[5], e[6], e[7], e[9], e[10], e[11]
     );
     println!("compared {} records, {} differences", seen.records, seen.differences);
     if seen.differences > 0 {

@@ -1,0 +1,145 @@
+-- A replay over lent words, put together from what its steps give; how large its numbers are; what it leaves where it stops at place 0.
+use Prim.Native.Nat.{ℕ, zero, suc, _+_, _*_, _%_, _<_, _≤_}
+use mathlib.Core.Bool.{Bool, true, false, not}
+use mathlib.Core.List.{List}
+use mathlib.Core.Path.{_≡_, refl, sym, _∙_, ap, subst}
+use native.Mathlib.Omega.{arith}
+use borrow.Author.Tests.{ltb-false}
+use lib.ListN.{length}
+use Rattle.memory.specs.Bytes.{Mem}
+use Rattle.memory.specs.Words.{pick}
+use Rattle.memory.proofs.Tests.{split}
+use Rattle.answers.specs.declared.Refusal.{Refusal}
+use Rattle.answers.specs.Numbers.{numberOf}
+use Rattle.state.specs.declared.gate.Gate.{Gate}
+use Rattle.state.specs.declared.gate.Gate.the-variants.{Open, Shut}
+use Rattle.state.specs.declared.State.{State}
+use Rattle.state.specs.Gate.{gateMem}
+use Rattle.board.specs.Outcomes.{behind}
+use Rattle.trace.specs.Records.{recordAt, tooLong}
+use Rattle.trace.proofs.RecordLaws.{record-advances}
+use Rattle.calls.specs.Called.{called}
+use Rattle.player.specs.declared.Ending.{Ending}
+use Rattle.player.specs.declared.Ending.the-variants.{Done, Stopped}
+use Rattle.player.specs.declared.Replayed.{Replayed}
+use Rattle.player.specs.Replay.{Left, leftOf, ended, playedFrom, replayed}
+use Rattle.player.proofs.Ways.{by-found, by-answer}
+use Rattle.words.specs.Words.{Words, good, stateOf, wordsOf}
+use Rattle.words.proofs.RoundLaws.{words-back}
+use Rattle.host_replay.specs.Promise.{Apart, Lent, Promised}
+use Rattle.host_replay.specs.Replays.{Hosted, endingTold, lastOf, hostedOf, hosting, replayOn}
+
+pub too-long-stays : (w : Words) (trace : List ℕ) (m : Mem) (log : List ℕ) (b : Bool) → b ≡ tooLong (length trace) → b ≡ true
+    → hostedOf 720896 w m log ≡ replayOn w trace m log
+unfolding replayOn
+too-long-stays w trace m log b e t = rw (← e, t)
+
+pub no-state-stays : (w : Words) (trace : List ℕ) (m : Mem) (log : List ℕ) (b g : Bool) → b ≡ tooLong (length trace) → b ≡ false → g ≡ good (w .bytes) → not g ≡ true
+    → hostedOf 327680 w m log ≡ replayOn w trace m log
+unfolding replayOn
+no-state-stays w trace m log b g eb tb e t = rw (← eb, tb, ← e, t)
+
+pub replay-left : (w v : Words) (trace : List ℕ) (m m′ : Mem) (log log′ : List ℕ) (b g : Bool) (s : State) (o : Replayed) (n : ℕ)
+    → b ≡ tooLong (length trace) → b ≡ false → g ≡ good (w .bytes) → not g ≡ false → s ≡ stateOf w → leftOf o m′ log′ ≡ replayed s trace m log → v ≡ wordsOf (o .state)
+    → n ≡ endingTold (o .ending) → hostedOf n v m′ log′ ≡ replayOn w trace m log
+unfolding replayOn
+replay-left w v trace m m′ log log′ b g s o n eb tb e t es eo ev en = rw (← eb, tb, ← e, t, en, ev, ← es, ← eo)
+
+by-gate : (P : Left → Type 0) (g : Gate) (shut : Refusal → Left) (go : Left) → ((why : Refusal) → P (shut why)) → P go → P (behind g shut go)
+by-gate P Open shut go s g = g
+by-gate P (Shut why) shut go s g = s why
+
+-- No count and no place is above the length of the trace.
+abbrev Within : ℕ → Left → Type 0
+Within n l = lastOf (l .out .ending) ≤ n
+
+from-within : (k : ℕ) (trace : List ℕ) (at n : ℕ) (s : State) (m : Mem) (log : List ℕ) → n ≤ at → at ≤ length trace → Within (length trace) (playedFrom k trace at n s m log)
+unfolding playedFrom
+from-within zero trace at n s m log i h = omega (arith, i, h)
+from-within (suc k) trace at n s m log i h =
+    by-found (Within (length trace)) (recordAt trace at) _ _ _ (omega (arith, i, h)) (λ why. h)
+    (λ call next r. let o = record-advances trace at call next r in
+    by-answer (Within (length trace)) (called call s m .out .answer) _ _ (λ why. h)
+    (from-within k trace next (n + 1) _ _ _ (omega (arith, i, o .0)) (o .1)))
+
+pub short : (s : State) (trace : List ℕ) (m : Mem) (log : List ℕ) → Within 8192 (replayed s trace m log)
+unfolding replayed
+short s trace m log =
+    split (tooLong (length trace)) (λ t. rw t (omega arith))
+    (λ t. rw t (by-gate (Within 8192) (gateMem s m) _ _ (λ why. omega arith)
+    (let h = from-within (length trace + 1) trace 0 0 s m log (omega arith) (omega arith) in omega (arith, h, ltb-false 8192 (length trace) t))))
+
+-- The ending of a replay that was played.
+pub short-ending : (s : State) (trace : List ℕ) (m m′ : Mem) (log log′ : List ℕ) (o : Replayed) → leftOf o m′ log′ ≡ replayed s trace m log → lastOf (o .ending) ≤ 8192
+short-ending s trace m m′ log log′ o e = subst (Within 8192) (sym e) (short s trace m log)
+
+pub done-short : (e : Ending) (count : ℕ) → e ≡ Done count → lastOf e ≤ 8192 → count ≤ 8192
+done-short e count t h = rw t at h
+
+pub stopped-short : (e : Ending) (place : ℕ) (why : Refusal) → e ≡ Stopped place why → lastOf e ≤ 8192 → place ≤ 8192
+stopped-short e place why t h = rw t at h
+
+pub apart-of : (e : Ending) → lastOf e ≤ 8192 → Apart e
+apart-of (Done n) h = (omega (arith, h), omega (arith, h))
+apart-of (Stopped place why) h = (omega (arith, h), omega (arith, h))
+
+-- What is played from a later place on stops at a later place.
+abbrev Past : Left → Type 0
+Past l = 65536 ≤ endingTold (l .out .ending) → endingTold (l .out .ending) % 65536 ≡ 0 → ⊥
+
+past-stop : (at : ℕ) (why : Refusal) → 0 < at → at ≤ 8192 → 65536 ≤ 65536 * numberOf why + at → (65536 * numberOf why + at) % 65536 ≡ 0 → ⊥
+past-stop at why p h a b = omega (arith, p, h, b)
+
+stops-past : (k : ℕ) (trace : List ℕ) (at n : ℕ) (s : State) (m : Mem) (log : List ℕ) → 0 < at → n ≤ at → at ≤ length trace → length trace ≤ 8192 → Past (playedFrom k trace at n s m log)
+unfolding playedFrom
+stops-past zero trace at n s m log p i h short = λ a b. omega (arith, a, i, h, short)
+stops-past (suc k) trace at n s m log p i h short =
+    let stop : (why : Refusal) → Past (ended (Stopped at why) s m log) = λ why. past-stop at why p (omega (arith, h, short)) in
+    by-found Past (recordAt trace at) _ _ _ (λ a b. omega (arith, a, i, h, short)) stop
+    (λ call next r. let o = record-advances trace at call next r in
+    by-answer Past (called call s m .out .answer) _ _ stop
+    (stops-past k trace next (n + 1) _ _ _ (omega (arith, o .0)) (omega (arith, i, o .0)) (o .1) short))
+
+-- A replay that stopped at place 0 left everything as it was.
+abbrev Stays : State → Mem → List ℕ → Left → Type 0
+Stays s m log l = 65536 ≤ endingTold (l .out .ending) → endingTold (l .out .ending) % 65536 ≡ 0 → l ≡ ended (l .out .ending) s m log
+
+first-stays : (k : ℕ) (trace : List ℕ) (s : State) (m : Mem) (log : List ℕ) → length trace ≤ 8192 → Stays s m log (playedFrom k trace 0 0 s m log)
+unfolding playedFrom
+first-stays zero trace s m log short = λ a b. refl
+first-stays (suc k) trace s m log short =
+    by-found (Stays s m log) (recordAt trace 0) _ _ _ (λ a b. refl) (λ why a b. refl)
+    (λ call next r. let o = record-advances trace 0 call next r in
+    by-answer (Stays s m log) (called call s m .out .answer) _ _ (λ why a b. refl)
+    (λ a b. absurd (stops-past k trace next 1 _ _ _ (o .0) (o .0) (o .1) short a b)))
+
+replayed-stays : (s : State) (trace : List ℕ) (m : Mem) (log : List ℕ) → Stays s m log (replayed s trace m log)
+unfolding replayed
+replayed-stays s trace m log =
+    split (tooLong (length trace)) (λ t. rw t (λ a b. refl))
+    (λ t. rw t (by-gate (Stays s m log) (gateMem s m) _ _ (λ why a b. refl) (first-stays (length trace + 1) trace s m log (ltb-false 8192 (length trace) t))))
+
+abbrev Same : Words → Mem → List ℕ → Hosted → Type 0
+Same w m log h = 65536 ≤ h .number → h .number % 65536 ≡ 0 → h ≡ hostedOf (h .number) w m log
+
+hosting-same : (w : Words) (trace : List ℕ) (m : Mem) (log : List ℕ) → Lent w → good (w .bytes) ≡ true → Same w m log (hosting (replayed (stateOf w) trace m log))
+hosting-same w trace m log lent g a b =
+    ap hosting (replayed-stays (stateOf w) trace m log a b)
+    ∙ ap (λ (v : Words). hostedOf (endingTold (replayed (stateOf w) trace m log .out .ending)) v m log) (words-back w (lent .bytes) (lent .halves) (lent .wide) g)
+
+on-good : (w : Words) (m : Mem) (log : List ℕ) (x : Hosted) (g : Bool) → (g ≡ true → Same w m log x) → Same w m log (pick (not g) (hostedOf 327680 w m log) x)
+on-good w m log x true s = s refl
+on-good w m log x false s = λ a b. refl
+
+same-on : (w : Words) (trace : List ℕ) (m : Mem) (log : List ℕ) → Lent w → Same w m log (replayOn w trace m log)
+unfolding replayOn
+same-on w trace m log lent =
+    split (tooLong (length trace)) (λ t. rw t (λ a b. refl))
+    (λ t. rw t (on-good w m log _ (good (w .bytes)) (hosting-same w trace m log lent)))
+
+pub promised : Promised
+promised =
+    record {
+      apart = λ s trace m log. apart-of (replayed s trace m log .out .ending) (short s trace m log);
+      unchanged = same-on;
+    }

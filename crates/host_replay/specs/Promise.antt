@@ -1,0 +1,27 @@
+-- What is promised of a replay over lent words beyond the definition of `replayOn`, as one statement, which the contract of `promises` holds.
+use Prim.Native.Nat.{ℕ, _/_, _%_, _≤_}
+use mathlib.Core.List.{List}
+use mathlib.Core.Path.{_≡_}
+use lib.ListN.{length}
+use Rattle.memory.specs.Bytes.{Mem}
+use Rattle.state.specs.declared.State.{State}
+use Rattle.player.specs.declared.Ending.{Ending}
+use Rattle.player.specs.Replay.{replayed}
+use Rattle.words.specs.Words.{Words}
+use Rattle.host_replay.specs.Replays.{endingTold, lastOf, refusalIn, hostedOf, replayOn}
+
+-- The number can be taken apart: no count and no place reaches 65,536.
+abbrev pub Apart : Ending → Type 0
+Apart e = (endingTold e / 65536 ≡ refusalIn e) × (endingTold e % 65536 ≡ lastOf e)
+
+-- Words of the lengths that a host lends.
+pub record Lent (w : Words) : Type 0 where
+  pub bytes : length (w .bytes) ≡ 33
+  pub halves : length (w .halves) ≡ 5
+  pub wide : length (w .wide) ≡ 6
+
+pub record Promised : Type 0 where
+  pub apart : (s : State) (trace : List ℕ) (m : Mem) (log : List ℕ) → Apart (replayed s trace m log .out .ending)
+  -- A replay that stopped at place 0, for 11, 4, 5 or by its first record, left every word, byte and log entry as it was.
+  pub unchanged : (w : Words) (trace : List ℕ) (m : Mem) (log : List ℕ) → Lent w → 65536 ≤ replayOn w trace m log .number → replayOn w trace m log .number % 65536 ≡ 0
+      → replayOn w trace m log ≡ hostedOf (replayOn w trace m log .number) w m log

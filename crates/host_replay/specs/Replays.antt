@@ -1,0 +1,49 @@
+-- Replay over lent words: what `player` plays on the state that the words stand for, and the words that stand for the state after it. 01: "replay
+-- checks 11, then 4 and 5, at place 0 before any record, in an empty trace too". Words that are no state are refused with 5, and stay.
+use Prim.Native.Nat.{ℕ, _+_, _*_}
+use mathlib.Core.Bool.{not}
+use mathlib.Core.List.{List}
+use lib.ListN.{length}
+use Rattle.memory.specs.Bytes.{Mem}
+use Rattle.memory.specs.Words.{pick}
+use Rattle.answers.specs.declared.Refusal.the-variants.{Length, State as StateBroken}
+use Rattle.answers.specs.Numbers.{numberOf}
+use Rattle.trace.specs.Records.{tooLong}
+use Rattle.player.specs.declared.Ending.{Ending}
+use Rattle.player.specs.declared.Ending.the-variants.{Done, Stopped}
+use Rattle.player.specs.Replay.{Left, replayed}
+use Rattle.words.specs.Words.{Words, good, stateOf, wordsOf}
+
+-- "answers with that record's place, or with the record count": the count, or 65,536 times the refusal's number and the place.
+abbrev pub endingTold : Ending → ℕ
+endingTold (Done count) = count
+endingTold (Stopped place why) = 65536 * numberOf why + place
+
+-- What a replay leaves: its number, the words, the five buffers and the log.
+pub record Hosted : Type 0 where
+  pub number : ℕ
+  pub words : Words
+  pub mem : Mem
+  pub log : List ℕ
+
+abbrev pub hostedOf : ℕ → Words → Mem → List ℕ → Hosted
+hostedOf n w m log = record { number = n; words = w; mem = m; log = log }
+
+abbrev pub hosting : Left → Hosted
+hosting x = hostedOf (endingTold (x .out .ending)) (wordsOf (x .out .state)) (x .mem) (x .log)
+
+unfoldable pub replayOn : Words → List ℕ → Mem → List ℕ → Hosted
+replayOn w trace m log =
+    pick (tooLong (length trace)) (hostedOf (endingTold (Stopped 0 Length)) w m log)
+    (pick (not (good (w .bytes))) (hostedOf (endingTold (Stopped 0 StateBroken)) w m log)
+    (hosting (replayed (stateOf w) trace m log)))
+
+-- The number that an ending tells beside a refusal: a count or a place.
+abbrev pub lastOf : Ending → ℕ
+lastOf (Done count) = count
+lastOf (Stopped place why) = place
+
+-- The refusal's number, or 0.
+abbrev pub refusalIn : Ending → ℕ
+refusalIn (Done count) = 0
+refusalIn (Stopped place why) = numberOf why
