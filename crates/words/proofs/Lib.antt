@@ -3,3 +3,4 @@ pub mod RangeLaws
 pub mod RoundLaws
 pub mod GateLaws
 pub mod PutLaws
+pub mod FlagLaws

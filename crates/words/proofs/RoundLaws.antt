@@ -13,7 +13,7 @@ use Rattle.memory.proofs.Tests.{conj-at}
 use Rattle.words.specs.Words.{Words, flagTests, good, mirroringNumbered, numberOfMirroring, pagesOf, numbersOf, numberIn, stateOf, wordsOf, bytesOf, halvesOf, wideOf}
 
 -- A list, element by element.
-abbrev upFrom : ℕ → ℕ → (ℕ → ℕ) → List ℕ
+abbrev pub upFrom : ℕ → ℕ → (ℕ → ℕ) → List ℕ
 upFrom k zero f = []
 upFrom k (suc n) f = f k ∷ upFrom (k + 1) n f
 
@@ -24,7 +24,7 @@ spelled (x ∷ l) k f h =
     let rest : upFrom (k + 1) (length l) f ≡ l = spelled l (k + 1) f (λ (i : ℕ). ap f (omega arith) ∙ h (suc i)) in
     ap (λ (y : ℕ). y ∷ upFrom (k + 1) (length l) f) first ∙ ap (λ (r : List ℕ). x ∷ r) rest
 
-listed : (l : List ℕ) (n : ℕ) → length l ≡ n → upFrom 0 n (λ (i : ℕ). getD l i 0) ≡ l
+pub listed : (l : List ℕ) (n : ℕ) → length l ≡ n → upFrom 0 n (λ (i : ℕ). getD l i 0) ≡ l
 listed l n e = ap (λ (m : ℕ). upFrom 0 m (λ (i : ℕ). getD l i 0)) (sym e) ∙ spelled l 0 (λ (i : ℕ). getD l i 0) (λ (i : ℕ). ap (λ (j : ℕ). getD l j 0) (omega arith))
 
 flag-small : (n : ℕ) → n ≤ 1 → flag (eqb n 1) ≡ n

@@ -1,5 +1,8 @@
 // Words read as groups of the state, and as the state.
 ghost use mathlib.Core.Path.{_≡_};
+ghost use lib.Dec.{ltb};
+ghost use lib.ListN.{length};
+ghost use Rattle.memory.specs.Words.{pick};
 ghost use Rattle.words.specs.Words.{flagAt, mirroringNumbered, good, lengthsOf, regsOf, splitOf, detectorOf, statusOf, stateOf, wordsAt};
 use crate::tables;
 use memory::PpuAddr;
@@ -12,26 +15,31 @@ use state::PpuStatus;
 use state::Screen;
 use state::State;
 
-// The flags are 0 or 1, the mirroring one of five.
+// No code: the length that the type says.
+fn thirty_three(bytes: [u8; 33])
+    ensures { λ _. ⌜ length bytes ≡ 33 ⌝ }
+{}
+
+// The larger of two.
+fn larger(a: u8, b: u8) -> u8
+    ensures { λ r. ⌜ r ≡ pick (ltb a b) b a ⌝ }
+{
+    if a < b { b } else { a }
+}
+
+// The flags are 0 or 1, the mirroring one of five: the largest of the flags is compared.
 pub fn is_good(bytes: &[u8; 33]) -> bool
     ensures { λ r. ⌜ r ≡ good (now (bytes .entry)) ⌝ }
 {
-    (bytes[0] <= 1)
-        & ((bytes[1] <= 1)
-            & ((bytes[2] <= 1)
-                & ((bytes[3] <= 1)
-                    & ((bytes[4] <= 1)
-                        & ((bytes[5] <= 1)
-                            & ((bytes[6] <= 1)
-                                & ((bytes[7] <= 1)
-                                    & ((bytes[8] <= 1)
-                                        & ((bytes[9] <= 1)
-                                            & ((bytes[10] <= 1)
-                                                & ((bytes[11] <= 1)
-                                                    & ((bytes[12] <= 1)
-                                                        & ((bytes[13] <= 1)
-                                                            & ((bytes[14] <= 1)
-                                                                & (bytes[15] <= 4)))))))))))))))
+    thirty_three(*bytes);
+    let mut largest: u8 = 0;
+    let mut i: usize = 0;
+    while i < 15 {
+        let flag = bytes[i];
+        largest = larger(largest, flag);
+        i += 1;
+    }
+    (largest <= 1) & (bytes[15] <= 4)
 }
 
 pub fn mirroring_numbered(n: u8) -> Mirroring

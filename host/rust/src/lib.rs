@@ -69,6 +69,7 @@ pub fn logged(log: &[u8], n: usize) -> Option<Told> {
     Some(told(u32::from(pair[0]) << 8 | u32::from(pair[1])))
 }
 
+#[inline]
 fn told(number: u32) -> Told {
     let value = number as u8;
     let answer = match (number >> 8 & 0x7F) as u8 {
@@ -85,6 +86,7 @@ fn told(number: u32) -> Told {
     }
 }
 
+#[inline]
 fn entry(number: u32) -> Result<Entry, u8> {
     let source = (number >> 16) as u8;
     if source == b'!' {
@@ -98,6 +100,7 @@ fn entry(number: u32) -> Result<Entry, u8> {
 }
 
 /// A number, or a refusal's.
+#[inline]
 fn number_or_refusal(number: u32) -> Result<u8, u8> {
     if number >> 8 == u32::from(b'!') {
         Err(number as u8)
@@ -162,6 +165,7 @@ impl State {
 
     /// Load over the five buffers, of which no byte is written. Mirroring: 0 Horizontal, 1 Vertical, 2 SingleScreenA, 3 SingleScreenB,
     /// 4 and above FourScreen. A refused load leaves the zero state.
+    #[inline]
     pub fn load(&mut self, m: &Memory<'_>, chr_writable: bool, mirroring: u8) -> Result<(), u8> {
         match told(over!(mmc5_load, [mut], self, m, u8::from(chr_writable), mirroring)).answer {
             Answer::Refused(number) => Err(number),
@@ -169,48 +173,59 @@ impl State {
         }
     }
 
+    #[inline]
     pub fn cpu_read(&mut self, m: &Memory<'_>, addr: u16) -> Told {
         told(over!(mmc5_cpu_read, [mut], self, m, addr))
     }
 
+    #[inline]
     pub fn cpu_peek(&self, m: &Memory<'_>, addr: u16) -> Answer {
         told(over!(mmc5_cpu_peek, [], self, m, addr)).answer
     }
 
+    #[inline]
     pub fn cpu_write(&mut self, m: &mut Memory<'_>, addr: u16, val: u8) -> Told {
         told(writing!(mmc5_cpu_write, self, m; addr, val))
     }
 
+    #[inline]
     pub fn ppu_fetch(&mut self, m: &Memory<'_>, addr: u16) -> Told {
         told(over!(mmc5_ppu_fetch, [mut], self, m, addr))
     }
 
+    #[inline]
     pub fn ppu_peek(&self, m: &Memory<'_>, addr: u16) -> Answer {
         told(over!(mmc5_ppu_peek, [], self, m, addr)).answer
     }
 
+    #[inline]
     pub fn sprite_peek(&self, m: &Memory<'_>, addr: u16) -> Answer {
         told(over!(mmc5_sprite_peek, [], self, m, addr)).answer
     }
 
+    #[inline]
     pub fn ppu_write(&mut self, m: &mut Memory<'_>, addr: u16, val: u8) -> Told {
         told(writing!(mmc5_ppu_write, self, m; addr, val))
     }
 
+    #[inline]
     pub fn ppu_register(&mut self, addr: u16, val: u8) -> Told {
         told(on!(mmc5_ppu_register, mut self, addr, val))
     }
 
+    #[inline]
     pub fn clock(&mut self) -> Told {
         told(on!(mmc5_clock, mut self))
     }
 
+    #[inline]
     pub fn reset(&mut self) -> Told {
         told(on!(mmc5_reset, mut self))
     }
 
     /// Plays a trace of at most 8,192 bytes in one call: the records played, or where it stopped. Each record that was played leaves two
     /// bytes in the log (see [`logged`]); what finds no room there is dropped, so an empty log will do. What lies past those bytes stays.
+    #[inline]
     pub fn replay(&mut self, m: &mut Memory<'_>, trace: &[u8], log: &mut [u8]) -> Result<usize, Stopped> {
         let number = writing!(mmc5_replay, self, m; trace.as_ptr(), trace.len(), log.as_mut_ptr(), log.len());
         let (refusal, place) = ((number >> 16) as u8, usize::from(number as u16));
@@ -218,31 +233,37 @@ impl State {
     }
 
     /// The mirroring by number, or a refusal's number.
+    #[inline]
     pub fn mirroring(&self) -> Result<u8, u8> {
         number_or_refusal(on!(mmc5_mirroring, self))
     }
 
     /// Whether the interrupt is up, or a refusal's number.
+    #[inline]
     pub fn interrupt(&self) -> Result<bool, u8> {
         number_or_refusal(on!(mmc5_interrupt, self)).map(|up| up != 0)
     }
 
     /// The PRG table's entry at a CPU address, or a refusal's number.
+    #[inline]
     pub fn cpu_entry(&self, addr: u16) -> Result<Entry, u8> {
         entry(on!(mmc5_cpu_entry, self, addr))
     }
 
     /// The CHR table's entry at a PPU address, or a refusal's number.
+    #[inline]
     pub fn ppu_entry(&self, addr: u16) -> Result<Entry, u8> {
         entry(on!(mmc5_ppu_entry, self, addr))
     }
 
     /// Copies the 1,024 bytes that the page at a CPU address shows of PRG-ROM or PRG-RAM; false, and nothing copied, for any other page.
+    #[inline]
     pub fn cpu_page(&self, m: &Memory<'_>, addr: u16, out: &mut [u8; 1024]) -> bool {
         over!(mmc5_cpu_page, [], self, m, addr, out.as_mut_ptr(), out.len()) != 0
     }
 
     /// Copies the 1,024 bytes that the page at a PPU address shows of CHR; false, and nothing copied, for any other page.
+    #[inline]
     pub fn ppu_page(&self, m: &Memory<'_>, addr: u16, out: &mut [u8; 1024]) -> bool {
         over!(mmc5_ppu_page, [], self, m, addr, out.as_mut_ptr(), out.len()) != 0
     }

@@ -155,12 +155,7 @@ impl Pair {
     /// Everything that can be asked: both page tables, all lent bytes, mirroring, the interrupt, page views, and peeks and sprite peeks over
     /// all addresses.
     pub fn whole(&mut self) -> Result<(), String> {
-        self.tables()?;
-        self.bytes()?;
-        let mirroring = MIRRORINGS.iter().position(|(m, _)| *m == self.rust.mirroring());
-        if self.state.mirroring().ok().map(usize::from) != mirroring {
-            return Err(format!("mirroring {:?}, the Rust {mirroring:?}", self.state.mirroring()));
-        }
+        self.shown()?;
         let m = self.buffers.lent();
         for addr in 0..=u16::MAX {
             let pairs = [
@@ -177,6 +172,23 @@ impl Pair {
         Ok(())
     }
 
+    /// Both page tables with the bytes that each page shows, all lent bytes, mirroring.
+    pub fn shown(&mut self) -> Result<(), String> {
+        self.tables()?;
+        self.bytes()?;
+        for page in 0..64 {
+            self.view((page * 1_024) as u16, true)?;
+        }
+        for page in 0..16 {
+            self.view((page * 1_024) as u16, false)?;
+        }
+        let mirroring = MIRRORINGS.iter().position(|(m, _)| *m == self.rust.mirroring());
+        if self.state.mirroring().ok().map(usize::from) != mirroring {
+            return Err(format!("mirroring {:?}, the Rust {mirroring:?}", self.state.mirroring()));
+        }
+        Ok(())
+    }
+
     /// All lent bytes.
     pub fn bytes(&self) -> Result<(), String> {
         for (buffer, (src, name)) in BUFFERS.into_iter().enumerate() {
@@ -187,15 +199,14 @@ impl Pair {
         Ok(())
     }
 
-    /// Both page tables, entry by entry, and the bytes that each page shows.
-    pub fn tables(&mut self) -> Result<(), String> {
+    /// Both page tables, entry by entry.
+    pub fn tables(&self) -> Result<(), String> {
         for page in 0..64 {
             let addr = (page * 1_024) as u16;
             let theirs = self.entry(self.rust.memory.prg_pages()[page]);
             if self.state.cpu_entry(addr) != Ok(theirs) {
                 return Err(format!("PRG page {page}: {:?}, the Rust {theirs:?}", self.state.cpu_entry(addr)));
             }
-            self.view(theirs, addr, true)?;
         }
         for page in 0..16 {
             let addr = (page * 1_024) as u16;
@@ -203,14 +214,15 @@ impl Pair {
             if self.state.ppu_entry(addr) != Ok(theirs) {
                 return Err(format!("CHR page {page}: {:?}, the Rust {theirs:?}", self.state.ppu_entry(addr)));
             }
-            self.view(theirs, addr, false)?;
         }
         Ok(())
     }
 
     /// A page's bytes: those that the Rust reads there, where the page shows PRG-ROM, PRG-RAM or CHR; else none.
-    fn view(&mut self, entry: mmc5::Entry, addr: u16, cpu: bool) -> Result<(), String> {
+    fn view(&mut self, addr: u16, cpu: bool) -> Result<(), String> {
         let mut out = [0xA5; 1_024];
+        let page = usize::from(addr / 1_024);
+        let entry = self.entry(if cpu { self.rust.memory.prg_pages()[page] } else { self.rust.memory.chr_pages()[page] });
         let m = self.buffers.lent();
         let (some, wanted) = if cpu {
             (self.state.cpu_page(&m, addr, &mut out), matches!(entry.source, 1 | 2))

@@ -53,6 +53,8 @@ fn trace(random: &mut Random, seen: &mut Seen) -> Result<(), String> {
     let Ok(mut reader) = Reader::new(&bytes) else {
         return Ok(());
     };
+    // One trace in 32 is looked at whole, at intervals and at its end.
+    let looks = random.once_in(32);
     let every = 200 + random.below(1_800);
     let mut since = 0;
     let mut stopped = false;
@@ -61,7 +63,7 @@ fn trace(random: &mut Random, seen: &mut Seen) -> Result<(), String> {
         seen.calls += 1;
         let taken = pair.call(record).map_err(|why| format!("{kind}: {why}"))?;
         since += 1;
-        if since % every == 0 {
+        if looks && since % every == 0 {
             pair.whole().map_err(|why| format!("{kind}: {why}"))?;
             seen.wholes += 1;
         } else if since % 64 == 0 {
@@ -81,8 +83,11 @@ fn trace(random: &mut Random, seen: &mut Seen) -> Result<(), String> {
     if !stopped {
         pair.same(&replayed).map_err(|why| format!("{kind}: {why}"))?;
     }
-    pair.whole().map_err(|why| format!("{kind}: {why}"))?;
-    seen.wholes += 1;
+    pair.shown().map_err(|why| format!("{kind}: {why}"))?;
+    if looks {
+        pair.whole().map_err(|why| format!("{kind}: {why}"))?;
+        seen.wholes += 1;
+    }
     for _ in 0..4 {
         seen.broken += 1;
         seen.calls += breaks::compare(random, &pair, &mut seen.replays)? as u64;
@@ -102,6 +107,9 @@ fn main() {
         // Each case has a seed of its own, so that it can be run alone.
         let mut random = Random::new(seed.wrapping_mul(0x9E37_79B9).wrapping_add(case));
         if let Err(why) = trace(&mut random, &mut seen) {
+            if seen.differences == 0 {
+                println!("the first difference, after {} records", seen.records);
+            }
             seen.differ(&format!("seed {seed}, case {case}"), why);
         }
         case += 1;
