@@ -24,9 +24,10 @@ use Rattle.player.specs.declared.Ending.the-variants.{Done, Stopped}
 use Rattle.player.specs.declared.Replayed.{Replayed}
 use Rattle.player.specs.Replay.{Left, leftOf, ended, playedFrom, replayed}
 use Rattle.player.proofs.Ways.{by-found, by-answer}
+use Rattle.words.specs.Promise.{Lent}
 use Rattle.words.specs.Words.{Words, good, stateOf, wordsOf}
 use Rattle.words.proofs.RoundLaws.{words-back}
-use Rattle.host_replay.specs.Promise.{Apart, Lent, Promised}
+use Rattle.host_replay.specs.Promise.{Apart, Promised}
 use Rattle.host_replay.specs.Replays.{Hosted, endingTold, lastOf, hostedOf, hosting, replayOn}
 
 pub too-long-stays : (w : Words) (trace : List ℕ) (m : Mem) (log : List ℕ) (b : Bool) → b ≡ tooLong (length trace) → b ≡ true

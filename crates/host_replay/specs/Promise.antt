@@ -2,23 +2,17 @@
 use Prim.Native.Nat.{ℕ, _/_, _%_, _≤_}
 use mathlib.Core.List.{List}
 use mathlib.Core.Path.{_≡_}
-use lib.ListN.{length}
 use Rattle.memory.specs.Bytes.{Mem}
 use Rattle.state.specs.declared.State.{State}
 use Rattle.player.specs.declared.Ending.{Ending}
 use Rattle.player.specs.Replay.{replayed}
+use Rattle.words.specs.Promise.{Lent}
 use Rattle.words.specs.Words.{Words}
 use Rattle.host_replay.specs.Replays.{endingTold, lastOf, refusalIn, hostedOf, replayOn}
 
 -- The number can be taken apart: no count and no place reaches 65,536.
 abbrev pub Apart : Ending → Type 0
 Apart e = (endingTold e / 65536 ≡ refusalIn e) × (endingTold e % 65536 ≡ lastOf e)
-
--- Words of the lengths that a host lends.
-pub record Lent (w : Words) : Type 0 where
-  pub bytes : length (w .bytes) ≡ 33
-  pub halves : length (w .halves) ≡ 5
-  pub wide : length (w .wide) ≡ 6
 
 pub record Promised : Type 0 where
   pub apart : (s : State) (trace : List ℕ) (m : Mem) (log : List ℕ) → Apart (replayed s trace m log .out .ending)

@@ -9,7 +9,17 @@ use borrow.Author.Tests.{leb-true}
 use lib.Dec.{eqb, leb}
 use lib.ListN.{length, getD}
 use Rattle.memory.specs.Words.{flag, word}
+use Rattle.memory.specs.declared.PageWord.{PageWord}
 use Rattle.memory.proofs.Tests.{conj-at}
+use Rattle.registers.specs.declared.Mirroring.{Mirroring}
+use Rattle.registers.specs.declared.Mirroring.the-variants.{Horizontal, Vertical, SingleScreenA, SingleScreenB, FourScreen}
+use Rattle.registers.specs.declared.Regs.{Regs}
+use Rattle.scanline.specs.declared.Detector.{Detector}
+use Rattle.split.specs.declared.VSplit.{VSplit}
+use Rattle.state.specs.declared.Lengths.{Lengths}
+use Rattle.state.specs.declared.PpuStatus.{PpuStatus}
+use Rattle.state.specs.declared.State.{State}
+use Rattle.words.specs.Promise.{Lent, Promised}
 use Rattle.words.specs.Words.{Words, flagTests, good, mirroringNumbered, numberOfMirroring, pagesOf, numbersOf, numberIn, stateOf, wordsOf, bytesOf, halvesOf, wideOf}
 
 -- A list, element by element.
@@ -81,3 +91,50 @@ wide-back w e = listed (w .wide) 6 e
 
 pub words-back : (w : Words) → length (w .bytes) ≡ 33 → length (w .halves) ≡ 5 → length (w .wide) ≡ 6 → good (w .bytes) ≡ true → wordsOf (stateOf w) ≡ w
 words-back w eb eh ew g = rw (bytes-back w eb g, halves-back w eh, wide-back w ew, numbers-back (w .prgPages), numbers-back (w .chrPages))
+
+-- A state's words, read again.
+flag-forth : (b : Bool) → eqb (flag b) 1 ≡ b
+flag-forth true = refl
+flag-forth false = refl
+
+mirroring-forth : (m : Mirroring) → mirroringNumbered (numberOfMirroring m) ≡ m
+mirroring-forth Horizontal = refl
+mirroring-forth Vertical = refl
+mirroring-forth SingleScreenA = refl
+mirroring-forth SingleScreenB = refl
+mirroring-forth FourScreen = refl
+
+pub pages-back : (l : List PageWord) → pagesOf (numbersOf l) ≡ l
+pages-back [] = refl
+pages-back (x ∷ l) = ap (λ (r : List PageWord). x ∷ r) (pages-back l)
+
+lengths-forth : (s : State) → stateOf (wordsOf s) .lengths ≡ s .lengths
+lengths-forth s = rw (flag-forth (s .lengths .loaded), flag-forth (s .lengths .«chr_writable»))
+
+regs-forth : (s : State) → stateOf (wordsOf s) .regs ≡ s .regs
+regs-forth s = rw (flag-forth (s .regs .«exram_chosen»))
+
+split-forth : (s : State) → stateOf (wordsOf s) .vsplit ≡ s .vsplit
+split-forth s = rw (flag-forth (s .vsplit .enabled), flag-forth (s .vsplit .right), flag-forth (s .vsplit .«in_region»))
+
+irq-forth : (s : State) → stateOf (wordsOf s) .irq ≡ s .irq
+irq-forth s = rw (flag-forth (s .irq .«prev_some»), flag-forth (s .irq .reading), flag-forth (s .irq .«in_frame»), flag-forth (s .irq .pending), flag-forth (s .irq .«irq_enabled»))
+
+ppu-forth : (s : State) → stateOf (wordsOf s) .ppu ≡ s .ppu
+ppu-forth s = rw (flag-forth (s .ppu .sprite8x16), flag-forth (s .ppu .rendering), flag-forth (s .ppu .«bg_set»), flag-forth (s .ppu .«bg_written»))
+
+abbrev made : Lengths → Regs → VSplit → Detector → PpuStatus → Mirroring → List ℕ → List ℕ → List PageWord → List PageWord → State
+made z r v d p m pb cb pp cp =
+    record { lengths = z; regs = r; vsplit = v; irq = d; ppu = p; screen = record { mirroring = m }; «prg_banks» = pb; «chr_banks» = cb; «prg_pages» = pp; «chr_pages» = cp }
+
+same-state : {z z′ : Lengths} {r r′ : Regs} {v v′ : VSplit} {d d′ : Detector} {p p′ : PpuStatus} {m m′ : Mirroring} {pb cb : List ℕ} {pp pp′ cp cp′ : List PageWord}
+    → z ≡ z′ → r ≡ r′ → v ≡ v′ → d ≡ d′ → p ≡ p′ → m ≡ m′ → pp ≡ pp′ → cp ≡ cp′ → made z r v d p m pb cb pp cp ≡ made z′ r′ v′ d′ p′ m′ pb cb pp′ cp′
+same-state a b c d e f g h = rw (a, b, c, d, e, f, g, h)
+
+pub words-forth : (s : State) → stateOf (wordsOf s) ≡ s
+words-forth s =
+    same-state (lengths-forth s) (regs-forth s) (split-forth s) (irq-forth s) (ppu-forth s) (mirroring-forth (s .screen .mirroring))
+    (pages-back (s .«prg_pages»)) (pages-back (s .«chr_pages»))
+
+pub promised : Promised
+promised = record { back = λ (w : Words) (l : Lent w) g. words-back w (l .bytes) (l .halves) (l .wide) g; forth = words-forth }

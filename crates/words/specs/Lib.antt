@@ -1,3 +1,4 @@
 pub mod Words
 pub mod Put
 pub mod Gate
+pub mod Promise
