@@ -9,7 +9,7 @@ use lib.Seq.{getD-set-same, getD-set-other}
 use Rattle.answers.specs.declared.Answer.{Answer}
 use Rattle.answers.specs.Letters.{valueOf}
 use Rattle.trace.specs.declared.Call.{Call}
-use Rattle.player.specs.Logs.{logLetter, logged}
+use Rattle.logs.specs.Logs.{logLetter, logged}
 use Rattle.histories.specs.Boards.{Board}
 use Rattle.histories.specs.Replays.{boardAfterCalls, answerAt, letterAt, logAlong, Replays}
 use Rattle.histories.proofs.Replayed.{from-load, from-there, too-long}

@@ -30,7 +30,7 @@ use Rattle.trace.specs.Records.Form.{whole, address, value, unknown}
 use Rattle.trace.proofs.RecordLaws.{kind-left, record-advances, record-refused}
 use Rattle.lines.specs.Promise.Played.{at-load, taken}
 use Rattle.player.specs.declared.Ending.the-variants.{Stopped}
-use Rattle.player.specs.Logs.{logged}
+use Rattle.logs.specs.Logs.{logged}
 use Rattle.player.specs.Replay.{Left, ended, found, answered, playedFrom, played, replayed}
 use Rattle.histories.specs.Boards.{Board, Made, says, leaves, number, numberIn}
 use Rattle.histories.specs.Boards.Made.{call}

@@ -29,7 +29,7 @@ use Rattle.board_ppu.specs.Fetch.{countedCall, ppuFetch}
 use Rattle.board_ppu.specs.Peeks.{chrAnswer}
 use Rattle.trace.specs.Numbers.{over, numeral, within}
 use Rattle.trace.specs.Records.{numbered, filled, recordAt}
-use Rattle.player.specs.Logs.{logged}
+use Rattle.logs.specs.Logs.{logged}
 use Rattle.player.specs.Replay.{playedFrom, replayed}
 use Rattle.histories.specs.WorkedReplay.{pages, WorkedReplay}
 

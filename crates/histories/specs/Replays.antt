@@ -22,7 +22,7 @@ use Rattle.trace.specs.Records.{recordAt}
 use Rattle.calls.specs.Called.{called}
 use Rattle.player.specs.declared.Ending.{Ending}
 use Rattle.player.specs.declared.Ending.the-variants.{Done, Stopped}
-use Rattle.player.specs.Logs.{logLetter, logged}
+use Rattle.logs.specs.Logs.{logLetter, logged}
 use Rattle.player.specs.Replay.{Left, ended, found, replayed}
 use Rattle.histories.specs.Boards.{Board, Made, says, leaves}
 use Rattle.histories.specs.Boards.Made.{call}

@@ -34,7 +34,7 @@ use Rattle.promises.proofs.Gates.{in-range-of}
 use Rattle.promises.proofs.Promised.{who-is-refused}
 use Rattle.promises.proofs.Refusals.{answer-is-given}
 use Rattle.player.specs.declared.Ending.the-variants.{Stopped}
-use Rattle.player.specs.Logs.{logged}
+use Rattle.logs.specs.Logs.{logged}
 use Rattle.player.specs.Replay.{Left, ended}
 use Rattle.arms.specs.Sides.{chosenAt}
 use Rattle.arms.proofs.Made

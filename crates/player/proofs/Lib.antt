@@ -1,4 +1,3 @@
-pub mod Letters
 pub mod Steps
 pub mod Arms
 pub mod Fuel

@@ -29,7 +29,7 @@ use Rattle.promises.proofs.Gates.{SameSizes, same, page-stored-sizes, cpu-store
 use Rattle.promises.proofs.Promised.{gate-stays-open}
 use Rattle.promises.proofs.Refusals.{Given}
 use Rattle.player.specs.declared.Ending.the-variants.{Done, Stopped}
-use Rattle.player.specs.Logs.{logLetter, logged}
+use Rattle.logs.specs.Logs.{logLetter, logged}
 use Rattle.player.specs.Replay.{Left, ended, answered, playedFrom, played}
 
 -- An answer that is no refusal goes on.

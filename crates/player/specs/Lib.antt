@@ -1,3 +1,2 @@
-pub mod Logs
 pub mod Replay
 pub mod Promise

@@ -21,7 +21,7 @@ use Rattle.calls.specs.Called.{called}
 use Rattle.player.specs.declared.Ending.{Ending}
 use Rattle.player.specs.declared.Ending.the-variants.{Done, Stopped}
 use Rattle.player.specs.declared.Replayed.{Replayed}
-use Rattle.player.specs.Logs.{logged}
+use Rattle.logs.specs.Logs.{logged}
 
 -- Everything that a replay leaves: its answer, the state, the five buffers and the log.
 pub record Left : Type 0 where

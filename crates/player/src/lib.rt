@@ -8,7 +8,6 @@ use answers::Refusal;
 use state::State;
 use state::gate::Gate;
 
-pub mod logs;
 pub mod plays;
 
 // "answers with that record's place, or with the record count"

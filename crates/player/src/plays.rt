@@ -9,7 +9,6 @@ ghost use Rattle.state.specs.Gate.{gateMem};
 ghost use Rattle.player.specs.Replay.{leftOf, played};
 use crate::Ending;
 use crate::Replayed;
-use crate::logs;
 use answers::Answer;
 use answers::Refusal;
 use arms::cpu_side;

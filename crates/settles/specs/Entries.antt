@@ -47,7 +47,7 @@ use Rattle.arms.proofs.cpu_side.read.Reads as player-read
 use Rattle.arms.proofs.cpu_side.store.Reads as player-store
 use Rattle.arms.proofs.cpu_side.exram_word.Reads as player-exram-word
 use Rattle.player.proofs.replay.Reads as player-replay
-use Rattle.player.proofs.logs.log_record.Reads as player-log-record
+use Rattle.logs.proofs.log_record.Reads as player-log-record
 use Rattle.player.proofs.plays.play.Reads as player-play
 use Rattle.arms.proofs.ppu_side.count_fetch.Reads as player-count-fetch
 use Rattle.arms.proofs.ppu_side.counted_answer.Reads as player-counted-answer

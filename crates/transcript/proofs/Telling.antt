@@ -28,7 +28,7 @@ use Rattle.text.proofs.LineLaws.{logged as logged-line}
 use Rattle.calls.specs.Called.{called}
 use Rattle.promises.specs.Refused.{isRefused}
 use Rattle.promises.proofs.Refusals.{Given}
-use Rattle.player.specs.Logs.{logLetter, logged}
+use Rattle.logs.specs.Logs.{logLetter, logged}
 use Rattle.player.specs.Replay.{Left, playedFrom}
 use Rattle.player.proofs.Steps.{answered-given, logged-length}
 use Rattle.player.proofs.Ways.{by-found, by-answer}

@@ -1,9 +1,9 @@
 -- A letter is below 128.
-use Rattle.player.proofs.Letters.{letter-small}
+use Rattle.logs.proofs.Letters.{letter-small}
 use native.Mathlib.Omega.{arith}
 use borrow.Author.Needs.{needs}
-use Rattle.player.proofs.logs.log_letter.Statement.{statement}
-use Rattle.player.proofs.logs.log_letter.Tie as tie
+use Rattle.logs.proofs.log_letter.Statement.{statement}
+use Rattle.logs.proofs.log_letter.Tie as tie
 
 letter-of-requires : tie.Need-letter-of-requires
 letter-of-requires c κs = search needs

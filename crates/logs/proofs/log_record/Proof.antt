@@ -1,8 +1,8 @@
 -- Two bytes put, the first first.
-use Rattle.player.specs.Logs.{logged}
+use Rattle.logs.specs.Logs.{logged}
 use borrow.Author.Needs.{needs}
-use Rattle.player.proofs.logs.log_record.Statement.{statement}
-use Rattle.player.proofs.logs.log_record.Tie as tie
+use Rattle.logs.proofs.log_record.Statement.{statement}
+use Rattle.logs.proofs.log_record.Tie as tie
 
 interrupt-up-requires : tie.Need-interrupt-up-requires
 interrupt-up-requires c κs = search needs

@@ -2,7 +2,7 @@
 ghost use Prim.Native.Nat.{_≤_};
 ghost use mathlib.Core.Path.{_≡_};
 ghost use Rattle.scanline.specs.Steps.{interruptUp};
-ghost use Rattle.player.specs.Logs.{logLetter, logged};
+ghost use Rattle.logs.specs.Logs.{logLetter, logged};
 use answers::Answer;
 use scanline::Detector;
 
