@@ -65,10 +65,13 @@ count-fetch-requires : tie.Need-count-fetch-requires
 count-fetch-requires c κs =
     let a = c .before .before .before .before .before .before .before .before .before .before .before .before .before .before .before .before .before .before .before .before .before .before .before .before .before .before .before .before .before .before .before .before .before .before .args in
     let w = wordsAt (a .bytes .now) (a .halves .now) (a .wide .now) (a .«prg-banks» .now) (a .«chr-banks» .now) (a .«prg-pages» .now) (a .«chr-pages» .now) in
-    let m = memOf (a .prg .now) (a .chr .now) (a .ram .now) (a .ciram .now) (a .exram .now) in
-    (detector-ranged (stateOf w) m _ (opened w m _ (c .before .before .before .before .before .before .before .before .before .before .before .before .before .before .before .before .before .before .before .passed .ensures) (c .before .before .before .before .before .before .before .before .before .before .before .before .before .before .before .before .before .enum-told .given .1)) (c .before .before .before .before .before .before .before .before .before .before .before .before .before .before .detector-of .ensures),
-    (tiles-ranged (stateOf w) m _ (opened w m _ (c .before .before .before .before .before .before .before .before .before .before .before .before .before .before .before .before .before .before .before .passed .ensures) (c .before .before .before .before .before .before .before .before .before .before .before .before .before .before .before .before .before .enum-told .given .1)) (c .before .before .before .before .before .before .before .before .before .before .status-of .ensures),
-    ((sym (c .before .counted .ensures) ∙ c .if2 .taken), sym (c .before .before .before .before .before .before .before .before .before .counter-refused .ensures) ∙ c .before .before .before .before .before .before .before .before .if1 .left)))
+    let m = memOf (a .prg .now) (a .chr .now) (a .ram .now) (a .ciram .now) (a .exram .now) in (
+      detector-ranged (stateOf w) m _ (opened w m _ (c .before .before .before .before .before .before .before .before .before .before .before .before .before .before .before .before .before .before .before .passed .ensures) (c .before .before .before .before .before .before .before .before .before .before .before .before .before .before .before .before .before .enum-told .given .1)) (c .before .before .before .before .before .before .before .before .before .before .before .before .before .before .detector-of .ensures),
+      (
+        tiles-ranged (stateOf w) m _ (opened w m _ (c .before .before .before .before .before .before .before .before .before .before .before .before .before .before .before .before .before .before .before .passed .ensures) (c .before .before .before .before .before .before .before .before .before .before .before .before .before .before .before .before .before .enum-told .given .1)) (c .before .before .before .before .before .before .before .before .before .before .status-of .ensures),
+        ((sym (c .before .counted .ensures) ∙ c .if2 .taken), sym (c .before .before .before .before .before .before .before .before .before .counter-refused .ensures) ∙ c .before .before .before .before .before .before .before .before .if1 .left),
+      ),
+    )
 
 word-at-requires : tie.Need-word-at-requires
 word-at-requires c κs = search needs
