@@ -38,8 +38,8 @@ use Rattle.words.specs.Words.{Words, wordsAt, good, stateOf, wordsOf}
 use Rattle.words.proofs.GateLaws.{bare, whole-bare, gate-bare, whole-good, whole-range, open-good, open-gate}
 use Rattle.words.proofs.PutLaws.{Sound, irq-put}
 use Rattle.words.proofs.RoundLaws.{words-back}
-use Rattle.host.specs.Told.{toldPlain, toldWith}
-use Rattle.host.specs.Hosted.{noState, leftOf, onWords}
+use Rattle.told.specs.Told.{noState, toldPlain, toldWith}
+use Rattle.host.specs.Hosted.{leftOf, onWords}
 use Rattle.host.proofs.HostLaws.{words-stay, words-left}
 
 -- The lengths of the lent arrays.

@@ -43,7 +43,7 @@ use Rattle.arms.proofs.Made.{fetch-counted, fetch-other}
 use Rattle.words.specs.Put.{irqBytes, irqHalves, regionBytes, regionHalves, tileHalves, tileWide, setBytes}
 use Rattle.words.specs.Words.{Words, wordsAt, pagesOf, numbersOf, stateOf}
 use Rattle.words.proofs.PutLaws.{Sound, KeepsFlags, KeepsSplit, KeepsTiles, counted-put, pattern-put}
-use Rattle.host.specs.Told.{toldWith}
+use Rattle.told.specs.Told.{toldWith}
 use Rattle.host.specs.Hosted.{leftOf, onWords}
 use Rattle.host.proofs.FastLaws.{taken-left}
 

@@ -3,15 +3,14 @@ use Prim.Native.Nat.{ℕ}
 use mathlib.Core.Bool.{Bool, true, false, not}
 use mathlib.Core.Path.{_≡_}
 use Rattle.memory.specs.Bytes.{Mem}
-use Rattle.answers.specs.declared.Answer.{Answer}
 use Rattle.state.specs.declared.State.{State}
 use Rattle.board.specs.declared.Outcome.{Outcome}
 use Rattle.board.specs.Loads.{loadCall}
 use Rattle.board.specs.Outcomes.{After, afterOf}
 use Rattle.words.specs.Words.{Words, good, stateOf, wordsOf}
-use Rattle.host.specs.Told.{toldPlain, toldWith}
 use Rattle.registers.specs.declared.Mirroring.{Mirroring}
-use Rattle.host.specs.Hosted.{noState, leftOf, leaving, onWords, hostedOf, onMemory, peekOn}
+use Rattle.told.specs.Told.{noState, toldWith}
+use Rattle.host.specs.Hosted.{leftOf, leaving, onWords, hostedOf, onMemory}
 
 pub words-stay : (w : Words) (f : State → Outcome) (g : Bool) → g ≡ good (w .bytes) → not g ≡ true → leftOf noState w ≡ onWords w f
 unfolding onWords
@@ -30,15 +29,6 @@ pub memory-left : (w v : Words) (m m′ : Mem) (f : State → After) (g : Bool) 
     → g ≡ good (w .bytes) → not g ≡ false → s ≡ stateOf w → afterOf o m′ ≡ f s → v ≡ wordsOf (o .state) → n ≡ toldWith (o .answer) (o .state .irq) → hostedOf n v m′ ≡ onMemory w m f
 unfolding onMemory
 memory-left w v m m′ f g s o n e t es eo ev en = rw (← e, t, en, ev, ← es, ← eo)
-
-pub peek-refused : (w : Words) (f : State → Answer) (g : Bool) → g ≡ good (w .bytes) → not g ≡ true → noState ≡ peekOn w f
-unfolding peekOn
-peek-refused w f g e t = rw (← e, t)
-
-pub peek-told : (w : Words) (f : State → Answer) (g : Bool) (s : State) (a : Answer) (n : ℕ)
-    → g ≡ good (w .bytes) → not g ≡ false → s ≡ stateOf w → a ≡ f s → n ≡ toldPlain a → n ≡ peekOn w f
-unfolding peekOn
-peek-told w f g s a n e t es ea en = rw (← e, t, en, ea, es)
 
 pub load-left : (m : Mem) (b : Bool) (s k : Mirroring) (o : Outcome) (v : Words) (n : ℕ)
     → o ≡ loadCall m b s → s ≡ k → v ≡ wordsOf (o .state) → n ≡ toldWith (o .answer) (o .state .irq) → leftOf n v ≡ leaving (loadCall m b k)

@@ -1,5 +1,3 @@
 pub mod HostLaws
-pub mod CopyLaws
-pub mod EntryLaws
 pub mod FastLaws
 pub mod FetchLaws

@@ -4,20 +4,11 @@ use Prim.Native.Nat.{ℕ}
 use mathlib.Core.Bool.{not}
 use Rattle.memory.specs.Bytes.{Mem}
 use Rattle.memory.specs.Words.{pick}
-use Rattle.answers.specs.declared.Answer.{Answer}
-use Rattle.answers.specs.declared.Answer.the-variants.{Refused}
-use Rattle.answers.specs.declared.Refusal.the-variants.{State as StateBroken}
 use Rattle.state.specs.declared.State.{State}
-use Rattle.board.specs.declared.Interrupt.{Interrupt}
 use Rattle.board.specs.declared.Outcome.{Outcome}
-use Rattle.board.specs.declared.Told.{Told}
 use Rattle.board.specs.Outcomes.{After}
 use Rattle.words.specs.Words.{Words, good, stateOf, wordsOf}
-use Rattle.host.specs.Told.{toldPlain, toldWith, mirroringTold, interruptTold}
-
--- The number that words which are no state are answered with.
-abbrev pub noState : ℕ
-noState = toldPlain (Refused StateBroken)
+use Rattle.told.specs.Told.{noState, toldWith}
 
 -- What a call leaves: its number and the words.
 pub record Left : Type 0 where
@@ -47,13 +38,3 @@ hosting x = hostedOf (toldWith (x .out .answer) (x .out .state .irq)) (wordsOf (
 
 unfoldable pub onMemory : Words → Mem → (State → After) → Hosted
 onMemory w m f = pick (not (good (w .bytes))) (hostedOf noState w m) (hosting (f (stateOf w)))
-
--- Calls that only answer.
-unfoldable pub peekOn : Words → (State → Answer) → ℕ
-peekOn w f = pick (not (good (w .bytes))) noState (toldPlain (f (stateOf w)))
-
-unfoldable pub mirroringOn : Words → (State → Told) → ℕ
-mirroringOn w f = pick (not (good (w .bytes))) noState (mirroringTold (f (stateOf w)))
-
-unfoldable pub interruptOn : Words → (State → Interrupt) → ℕ
-interruptOn w f = pick (not (good (w .bytes))) noState (interruptTold (f (stateOf w)))

@@ -1,3 +1,1 @@
-pub mod Told
 pub mod Hosted
-pub mod Pages

@@ -4,7 +4,6 @@ ghost use Rattle.state.specs.declared.State.{State};
 ghost use Rattle.words.specs.Words.{wordsAt};
 ghost use Rattle.board.specs.Whole.{clockCall};
 ghost use Rattle.host.specs.Hosted.{leftOf, onWords};
-use crate::told;
 use answers::Answer;
 
 // One CPU clock.

@@ -8,7 +8,6 @@ ghost use Rattle.board_ppu.specs.Fetch.{ppuFetch, setChanged};
 ghost use Rattle.board_ppu.specs.Peeks.{chrWordAt};
 ghost use Rattle.words.specs.Words.{wordsAt, lengthsOf, regsOf, pagesOf, numbersOf};
 ghost use Rattle.host.specs.Hosted.{leftOf, onWords};
-use crate::told;
 use answers::Answer;
 use answers::Refusal;
 use arms::ppu_side;

@@ -6,7 +6,6 @@ ghost use Rattle.memory.specs.Bytes.{memOf};
 ghost use Rattle.board.specs.Loads.{loadCall};
 ghost use Rattle.words.specs.Words.{wordsAt, mirroringNumbered};
 ghost use Rattle.host.specs.Hosted.{leftOf, leaving};
-use crate::told;
 
 // CHR is writable where the byte is not 0; mirroring is 0 to 4, and 4 stands for what is above. What the words held does not matter. A refused
 // load leaves the zero state.

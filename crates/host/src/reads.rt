@@ -6,7 +6,6 @@ ghost use Rattle.words.specs.Words.{wordsAt, pagesOf};
 ghost use Rattle.board.specs.CpuSide.{cpuRead};
 ghost use Rattle.cpu.specs.Writes.{prgWordAt};
 ghost use Rattle.host.specs.Hosted.{leftOf, onWords};
-use crate::told;
 use answers::Answer;
 use answers::Refusal;
 use memory::PageWord;

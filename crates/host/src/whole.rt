@@ -2,9 +2,8 @@
 ghost use mathlib.Core.Path.{_≡_};
 ghost use Rattle.state.specs.declared.State.{State};
 ghost use Rattle.words.specs.Words.{wordsAt};
-ghost use Rattle.board.specs.Whole.{resetCall, ppuRegisterCall, mirroringCall, interruptCall};
-ghost use Rattle.host.specs.Hosted.{leftOf, onWords, mirroringOn, interruptOn};
-use crate::told;
+ghost use Rattle.board.specs.Whole.{resetCall, ppuRegisterCall};
+ghost use Rattle.host.specs.Hosted.{leftOf, onWords};
 use memory::CpuAddr;
 
 // Modes 8k and 1k.
@@ -91,62 +90,4 @@ pub extern "C" fn mmc5_ppu_register(
         chr_pages,
     );
     told::with_interrupt(answer, irq)
-}
-
-// The mirroring, 0 to 4.
-#[no_mangle]
-pub extern "C" fn mmc5_mirroring(
-    bytes: &[u8; 33],
-    halves: &[u16; 5],
-    wide: &[u32; 6],
-    prg_banks: &[u8; 5],
-    chr_banks: &[u8; 16],
-    prg_pages: &[u16; 64],
-    chr_pages: &[u16; 16],
-) -> u32
-    ensures { λ r. ⌜ r ≡ mirroringOn (wordsAt (now (bytes .entry)) (now (halves .entry)) (now (wide .entry)) (now («prg_banks» .entry)) (now («chr_banks» .entry)) (now («prg_pages» .entry)) (now («chr_pages» .entry))) (λ (s : State). mirroringCall s) ⌝ }
-{
-    if !words::read::is_good(bytes) {
-        return told::NO_STATE;
-    }
-    let s = words::read::state_of(
-        bytes,
-        halves,
-        wide,
-        prg_banks,
-        chr_banks,
-        prg_pages,
-        chr_pages,
-    );
-    let m = board::whole::mirroring(s);
-    told::mirroring(m)
-}
-
-// Whether the interrupt is up, 0 or 1.
-#[no_mangle]
-pub extern "C" fn mmc5_interrupt(
-    bytes: &[u8; 33],
-    halves: &[u16; 5],
-    wide: &[u32; 6],
-    prg_banks: &[u8; 5],
-    chr_banks: &[u8; 16],
-    prg_pages: &[u16; 64],
-    chr_pages: &[u16; 16],
-) -> u32
-    ensures { λ r. ⌜ r ≡ interruptOn (wordsAt (now (bytes .entry)) (now (halves .entry)) (now (wide .entry)) (now («prg_banks» .entry)) (now («chr_banks» .entry)) (now («prg_pages» .entry)) (now («chr_pages» .entry))) (λ (s : State). interruptCall s) ⌝ }
-{
-    if !words::read::is_good(bytes) {
-        return told::NO_STATE;
-    }
-    let s = words::read::state_of(
-        bytes,
-        halves,
-        wide,
-        prg_banks,
-        chr_banks,
-        prg_pages,
-        chr_pages,
-    );
-    let i = board::whole::interrupt_up(s);
-    told::interrupt(i)
 }

@@ -1,0 +1,3 @@
+pub mod LookLaws
+pub mod CopyLaws
+pub mod EntryLaws

@@ -1,0 +1,199 @@
+// What the page tables hold: an entry, and the bytes that a page shows, copied out.
+ghost use mathlib.Core.Path.{_≡_};
+ghost use Rattle.memory.specs.Bytes.{memOf};
+ghost use Rattle.state.specs.declared.State.{State};
+ghost use Rattle.views.specs.Views.{cpuView, ppuView};
+ghost use Rattle.words.specs.Words.{wordsAt};
+ghost use Rattle.host_looks.specs.Pages.{withinBuffer, entryNumber, prgEntry, chrEntry, entryOn, copied, copiedOf, copyOn};
+use memory::CpuAddr;
+use memory::Page;
+use memory::PpuAddr;
+use memory::Src;
+
+// Words that are no state, and a state out of range: `!` in the buffer's place, and 5.
+const NO_ENTRY: u32 = 2162693;
+
+// A page's number in its buffer, with a mark where it takes writes.
+fn within(index: u32, writable: bool) -> u16
+    ensures { λ r. ⌜ r ≡ withinBuffer index writable ⌝ }
+{
+    let at = (index % 1024) as u16;
+    if writable {
+        return at + 32768;
+    }
+    at
+}
+
+// A page as one number: its buffer, whether it takes writes, its place in the buffer.
+fn entry_number(page: Page) -> u32
+    ensures { λ r. ⌜ r ≡ entryNumber page ⌝ }
+{
+    let src = page.src;
+    let low = within(page.index, page.writable) as u32;
+    match src {
+        Src::Blank => low,
+        Src::PrgRom => 65536 + low,
+        Src::PrgRam => 131072 + low,
+        Src::Chr => 196608 + low,
+        Src::CiRam => 262144 + low,
+        Src::ExRam => 327680 + low,
+    }
+}
+
+// The PRG table's entry at a CPU address.
+#[no_mangle]
+pub extern "C" fn mmc5_cpu_entry(
+    bytes: &[u8; 33],
+    halves: &[u16; 5],
+    wide: &[u32; 6],
+    prg_banks: &[u8; 5],
+    chr_banks: &[u8; 16],
+    prg_pages: &[u16; 64],
+    chr_pages: &[u16; 16],
+    addr: u16,
+) -> u32
+    ensures { λ r. ⌜ r ≡ entryOn (wordsAt (now (bytes .entry)) (now (halves .entry)) (now (wide .entry)) (now («prg_banks» .entry)) (now («chr_banks» .entry)) (now («prg_pages» .entry)) (now («chr_pages» .entry))) (λ (s : State). prgEntry s addr) ⌝ }
+{
+    if !words::read::is_good(bytes) {
+        return NO_ENTRY;
+    }
+    let s = words::read::state_of(
+        bytes,
+        halves,
+        wide,
+        prg_banks,
+        chr_banks,
+        prg_pages,
+        chr_pages,
+    );
+    if !state::ranges::in_range(s) {
+        return NO_ENTRY;
+    }
+    let pages = s.prg_pages;
+    let word = cpu::writes::prg_word_at(pages, addr);
+    let page = memory::words::page_of(word);
+    entry_number(page)
+}
+
+// The CHR table's entry at a PPU address.
+#[no_mangle]
+pub extern "C" fn mmc5_ppu_entry(
+    bytes: &[u8; 33],
+    halves: &[u16; 5],
+    wide: &[u32; 6],
+    prg_banks: &[u8; 5],
+    chr_banks: &[u8; 16],
+    prg_pages: &[u16; 64],
+    chr_pages: &[u16; 16],
+    addr: u16,
+) -> u32
+    ensures { λ r. ⌜ r ≡ entryOn (wordsAt (now (bytes .entry)) (now (halves .entry)) (now (wide .entry)) (now («prg_banks» .entry)) (now («chr_banks» .entry)) (now («prg_pages» .entry)) (now («chr_pages» .entry))) (λ (s : State). chrEntry s addr) ⌝ }
+{
+    if !words::read::is_good(bytes) {
+        return NO_ENTRY;
+    }
+    let s = words::read::state_of(
+        bytes,
+        halves,
+        wide,
+        prg_banks,
+        chr_banks,
+        prg_pages,
+        chr_pages,
+    );
+    if !state::ranges::in_range(s) {
+        return NO_ENTRY;
+    }
+    let pages = s.chr_pages;
+    let word = board_ppu::pages::chr_word_at(pages, addr);
+    let page = memory::words::page_of(word);
+    entry_number(page)
+}
+
+// A page's bytes, copied where there are 1,024 of them and room for just so many: how many.
+fn copy(part: &[u8], out: &mut [u8]) -> u32
+    ensures { λ r. ⌜ copiedOf r (now (out .exit)) ≡ copied (now (part .entry)) (now (out .entry)) ⌝ }
+{
+    let whole = (part.len() == 1024) & (out.len() == 1024);
+    if !whole {
+        return 0;
+    }
+    let mut i: usize = 0;
+    while i < 1024 {
+        out[i] = part[i];
+        i += 1;
+    }
+    1024
+}
+
+// The bytes that the page at a CPU address shows of PRG-ROM or of PRG-RAM.
+#[no_mangle]
+pub extern "C" fn mmc5_cpu_page<'a>(
+    bytes: &[u8; 33],
+    halves: &[u16; 5],
+    wide: &[u32; 6],
+    prg_banks: &[u8; 5],
+    chr_banks: &[u8; 16],
+    prg_pages: &[u16; 64],
+    chr_pages: &[u16; 16],
+    prg: &'a [u8],
+    chr: &[u8],
+    ram: &'a [u8],
+    ciram: &[u8],
+    exram: &[u8],
+    addr: u16,
+    out: &mut [u8],
+) -> u32
+    ensures { λ r. ⌜ copiedOf r (now (out .exit)) ≡ copyOn (wordsAt (now (bytes .entry)) (now (halves .entry)) (now (wide .entry)) (now («prg_banks» .entry)) (now («chr_banks» .entry)) (now («prg_pages» .entry)) (now («chr_pages» .entry))) (λ (s : State). cpuView s (memOf (now (prg .entry)) (now (chr .entry)) (now (ram .entry)) (now (ciram .entry)) (now (exram .entry))) addr) (now (out .entry)) ⌝ }
+{
+    if !words::read::is_good(bytes) {
+        return 0;
+    }
+    let s = words::read::state_of(
+        bytes,
+        halves,
+        wide,
+        prg_banks,
+        chr_banks,
+        prg_pages,
+        chr_pages,
+    );
+    let part = views::cpu_view(s, prg, chr, ram, ciram, exram, CpuAddr(addr));
+    copy(part, out)
+}
+
+// The bytes that the page at a PPU address shows of CHR.
+#[no_mangle]
+pub extern "C" fn mmc5_ppu_page(
+    bytes: &[u8; 33],
+    halves: &[u16; 5],
+    wide: &[u32; 6],
+    prg_banks: &[u8; 5],
+    chr_banks: &[u8; 16],
+    prg_pages: &[u16; 64],
+    chr_pages: &[u16; 16],
+    prg: &[u8],
+    chr: &[u8],
+    ram: &[u8],
+    ciram: &[u8],
+    exram: &[u8],
+    addr: u16,
+    out: &mut [u8],
+) -> u32
+    ensures { λ r. ⌜ copiedOf r (now (out .exit)) ≡ copyOn (wordsAt (now (bytes .entry)) (now (halves .entry)) (now (wide .entry)) (now («prg_banks» .entry)) (now («chr_banks» .entry)) (now («prg_pages» .entry)) (now («chr_pages» .entry))) (λ (s : State). ppuView s (memOf (now (prg .entry)) (now (chr .entry)) (now (ram .entry)) (now (ciram .entry)) (now (exram .entry))) addr) (now (out .entry)) ⌝ }
+{
+    if !words::read::is_good(bytes) {
+        return 0;
+    }
+    let s = words::read::state_of(
+        bytes,
+        halves,
+        wide,
+        prg_banks,
+        chr_banks,
+        prg_pages,
+        chr_pages,
+    );
+    let part = views::ppu_view(s, prg, chr, ram, ciram, exram, PpuAddr(addr));
+    copy(part, out)
+}

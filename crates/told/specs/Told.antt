@@ -1,0 +1,50 @@
+-- What the host is told, as one number.
+use Prim.Native.Nat.{ℕ, _+_, _*_}
+use mathlib.Core.Bool.{Bool, true, false, _&&_}
+use Rattle.memory.specs.Words.{pick}
+use Rattle.answers.specs.declared.Answer.{Answer}
+use Rattle.answers.specs.declared.Answer.the-variants.{Nothing, Register, Served, Page, Blank, Refused}
+use Rattle.answers.specs.declared.Refusal.the-variants.{State as StateBroken}
+use Rattle.answers.specs.Letters.{letterOf, valueOf}
+use Rattle.answers.specs.Numbers.{numberOf}
+use Rattle.board.specs.declared.Interrupt.{Interrupt}
+use Rattle.board.specs.declared.Interrupt.the-variants.{Up, Down, Refused as InterruptRefused}
+use Rattle.board.specs.declared.Told.{Told}
+use Rattle.board.specs.declared.Told.the-variants.{Is, Refused as MirroringRefused}
+use Rattle.scanline.specs.declared.Detector.{Detector}
+use Rattle.scanline.specs.Steps.{interruptUp}
+use Rattle.words.specs.Words.{numberOfMirroring}
+
+-- The letter that 01 prints for the answer, times 256, and the answer's value; a refusal is `!` and its number.
+abbrev pub toldPlain : Answer → ℕ
+toldPlain a = letterOf a * 256 + valueOf a
+
+-- The number that words which are no state are answered with.
+abbrev pub noState : ℕ
+noState = toldPlain (Refused StateBroken)
+
+-- A call that was taken, not refused.
+abbrev pub taken : Answer → Bool
+taken Nothing = true
+taken (Register v) = true
+taken (Served v) = true
+taken (Page v) = true
+taken Blank = true
+taken (Refused r) = false
+
+-- After a call that was taken, 32,768 more where the interrupt is up.
+abbrev pub toldWith : Answer → Detector → ℕ
+toldWith a d = pick (taken a && interruptUp d) (toldPlain a + 32768) (toldPlain a)
+
+-- `!`, times 256
+abbrev pub refusedAs : ℕ
+refusedAs = 8448
+
+abbrev pub mirroringTold : Told → ℕ
+mirroringTold (Is m) = numberOfMirroring m
+mirroringTold (MirroringRefused r) = refusedAs + numberOf r
+
+abbrev pub interruptTold : Interrupt → ℕ
+interruptTold Up = 1
+interruptTold Down = 0
+interruptTold (InterruptRefused r) = refusedAs + numberOf r

@@ -1,0 +1,66 @@
+// What the host is told, as one number: the part that the static libraries of the single calls and of the looks share.
+ghost use mathlib.Core.Path.{_≡_};
+ghost use Rattle.told.specs.Told.{toldPlain, taken, toldWith, mirroringTold, interruptTold};
+use answers::Answer;
+use board::Interrupt;
+use board::Told;
+use scanline::Detector;
+
+// Words that are no state: `!` and 5.
+pub const NO_STATE: u32 = 8453;
+
+// The letter's code times 256, and the value.
+pub fn plain(answer: Answer) -> u32
+    ensures { λ r. ⌜ r ≡ toldPlain answer ⌝ }
+{
+    let letter = answers::letter_of(answer);
+    let value = answers::value_of(answer);
+    letter as u32 * 256 + value as u32
+}
+
+// The call was taken.
+fn is_taken(answer: Answer) -> bool
+    ensures { λ r. ⌜ r ≡ taken answer ⌝ }
+{
+    match answer {
+        Answer::Nothing => true,
+        Answer::Register(_) => true,
+        Answer::Served(_) => true,
+        Answer::Page(_) => true,
+        Answer::Blank => true,
+        Answer::Refused(_) => false,
+    }
+}
+
+// With 32,768 more where the interrupt is up after the call.
+pub fn with_interrupt(answer: Answer, irq: Detector) -> u32
+    ensures { λ r. ⌜ r ≡ toldWith answer irq ⌝ }
+{
+    let letter = answers::letter_of(answer);
+    let value = answers::value_of(answer);
+    let up = is_taken(answer) & scanline::interrupt_up(irq);
+    let number = letter as u32 * 256 + value as u32;
+    if up {
+        return number + 32768;
+    }
+    number
+}
+
+pub fn mirroring(told: Told) -> u32
+    ensures { λ r. ⌜ r ≡ mirroringTold told ⌝ }
+{
+    match told {
+        Told::Is(m) => words::put::number_of_mirroring(m) as u32,
+        Told::Refused(r) => 8448 + answers::number_of(r) as u32,
+    }
+}
+
+pub fn interrupt(told: Interrupt) -> u32
+    ensures { λ r. ⌜ r ≡ interruptTold told ⌝ }
+{
+    match told {
+        Interrupt::Up => 1,
+        Interrupt::Down => 0,
+        Interrupt::Refused(r) => 8448 + answers::number_of(r) as u32,
+    }
+}
