@@ -1,7 +1,7 @@
 -- The PPU fetch by the groups that it changes: what it leaves is what the board's call leaves.
 use Prim.Native.Nat.{ℕ}
 use mathlib.Core.Bool.{Bool, true, false, not, _&&_}
-use mathlib.Core.List.{List, [], _∷_}
+use mathlib.Core.List.{List}
 use mathlib.Core.Path.{_≡_, refl, sym, ap, _∙_}
 use borrow.Author.Tests.{not-false}
 use lib.Dec.{ltb}
@@ -43,14 +43,10 @@ use Rattle.arms.proofs.Made.{fetch-counted, fetch-other}
 use Rattle.words.specs.Put.{irqBytes, irqHalves, regionBytes, regionHalves, tileHalves, tileWide, setBytes}
 use Rattle.words.specs.Words.{Words, wordsAt, pagesOf, numbersOf, stateOf}
 use Rattle.words.proofs.PutLaws.{Sound, KeepsFlags, KeepsSplit, KeepsTiles, counted-put, pattern-put}
+use Rattle.words.proofs.RoundLaws.{pages-back}
 use Rattle.told.specs.Told.{toldWith}
 use Rattle.host.specs.Hosted.{leftOf, onWords}
 use Rattle.host.proofs.FastLaws.{taken-left}
-
--- The page words of a table's numbers.
-pub pages-back : (l : List PageWord) → pagesOf (numbersOf l) ≡ l
-pages-back [] = refl
-pages-back (x ∷ l) = ap (λ (r : List PageWord). x ∷ r) (pages-back l)
 
 pub fetch-shut : (s : State) (m : Mem) (a : ℕ) (r : Refusal) → gateMem s m ≡ Shut r → ppuFetch s m a ≡ refused s r
 unfolding ppuFetch
