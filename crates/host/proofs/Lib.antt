@@ -1,3 +1,4 @@
 pub mod HostLaws
 pub mod FastLaws
 pub mod FetchLaws
+pub mod Promised
