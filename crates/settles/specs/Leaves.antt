@@ -9,6 +9,9 @@ use Rattle.memory.proofs.bytes.peek.Reads as memory-peek
 use Rattle.memory.proofs.bytes.store.Reads as memory-store
 use Rattle.memory.proofs.tables.prg_table_ok.Reads as memory-prg-table-ok
 use Rattle.memory.proofs.tables.chr_table_ok.Reads as memory-chr-table-ok
+use Rattle.memory.proofs.tables.prg_place.Reads as memory-prg-place
+use Rattle.memory.proofs.tables.prg_places.Reads as memory-prg-places
+use Rattle.memory.proofs.tables.chr_word_ok.Reads as memory-chr-word-ok
 use Rattle.memory.proofs.windows.prg_window.Reads as memory-prg-window
 use Rattle.memory.proofs.windows.chr_window.Reads as memory-chr-window
 use Rattle.memory.proofs.words.word_of.Reads as memory-word-of
@@ -114,6 +117,9 @@ pub record Memory : Type 0 where
   pub store : Settles memory-store.Learnt (λ κ a r e. memOf [] (now (e .0)) (now (e .1 .0)) (now (e .1 .1 .0)) (now (e .1 .1 .1 .0)))
   pub prg-table-ok : Result memory-prg-table-ok.Learnt
   pub chr-table-ok : Result memory-chr-table-ok.Learnt
+  pub prg-place : Result memory-prg-place.Learnt
+  pub prg-places : Result memory-prg-places.Learnt
+  pub chr-word-ok : Result memory-chr-word-ok.Learnt
   pub prg-window : Result memory-prg-window.Learnt
   pub chr-window : Result memory-chr-window.Learnt
   pub word-of : Result memory-word-of.Learnt
