@@ -56,7 +56,7 @@ impl Wild {
     fn record(&mut self, random: &mut Random) -> Record {
         if self.tiles > 0 && !random.once_in(20) {
             self.tiles -= 1;
-            self.last_fetch = 0x2000 | ((self.last_fetch + 1) & 0x0FFF);
+            self.last_fetch = 0x2000 | (self.last_fetch.wrapping_add(1) & 0x0FFF);
             return Record::PpuFetch(self.last_fetch);
         }
         if random.once_in(150) {
