@@ -1,4 +1,4 @@
-//! Random cartridges of every length class: each PRG-ROM, CHR and PRG-RAM length that load takes can come, those at the edges often.
+//! Random cartridges of every length class that load takes, those at the edges often.
 
 use oracle::{
     cartridge::{Cartridge, MIRRORINGS},
