@@ -22,6 +22,7 @@ hasValue (Page v) = true
 hasValue Blank = false
 hasValue (Refused r) = true
 
+-- The value that is printed; where none is, 0.
 abbrev pub valueOf : Answer → ℕ
 valueOf Nothing = 0
 valueOf (Register v) = v

@@ -1,10 +1,9 @@
--- What a call leaves in one group, over all addresses.
+-- For the loop of replay and for the host: what a write leaves at page 23, and a fetch of the CHR set, over all addresses.
 use Prim.Native.Nat.{ℕ}
 use mathlib.Core.Bool.{Bool}
 use lib.Dec.{eqb, ltb}
 use Rattle.memory.specs.declared.PageWord.{PageWord}
 use Rattle.memory.specs.Words.{pick}
-use Rattle.answers.specs.declared.Answer.{Answer}
 use Rattle.banks.specs.Prg.{exramPage}
 use Rattle.cpu.specs.Chosen.{chosen}
 use Rattle.state.specs.declared.PpuStatus.{PpuStatus}

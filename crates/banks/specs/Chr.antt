@@ -1,7 +1,7 @@
 -- CHR banks. 01, rule 5: "Page = ((bank OR hi) << shift) + place in window; shifts 3, 2, 1, 0. Set: sprite if 8x8, or tile count 32-39, or out
 -- of frame with the last CHR write a sprite one; else background."
-use Prim.Native.Nat.{ℕ, _+_, _-_, _*_, _/_, _%_, _^_}
-use mathlib.Core.Bool.{Bool, true, false, _||_, not, _&&_}
+use Prim.Native.Nat.{ℕ, _+_, _-_, _*_, _/_, _%_}
+use mathlib.Core.Bool.{Bool, _||_, not, _&&_}
 use mathlib.Core.List.{List}
 use lib.Bits.{bitOr}
 use lib.Dec.{eqb}
@@ -17,7 +17,8 @@ use Rattle.banks.specs.Placed.{placed}
 unfoldable pub windowPages : ℕ → ℕ
 windowPages mode = pick (eqb mode 0) 8 (pick (eqb mode 1) 4 (pick (eqb mode 2) 2 1))
 
--- A window of n pages goes by its last register, where each of its pages has one: place k's window has the places from k / n * n on.
+-- Each of the eight places has a register in its set. A window of n pages uses its last place's (docs/DECISIONS.md, "a window's register"); place k
+-- lies in the window of the places k / n * n to k / n * n + n - 1.
 abbrev pub windowRegister : ℕ → ℕ → ℕ
 windowRegister n k = k / n * n + n - 1
 

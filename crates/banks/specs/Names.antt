@@ -1,6 +1,6 @@
 -- Nametables. 01, rule 3: "$5105 gives four selectors of two bits." Rule 6: "Without nametable use ExRAM maps blank; Fill always maps blank".
-use Prim.Native.Nat.{ℕ, _*_, _/_, _%_, _^_}
-use mathlib.Core.Bool.{Bool, true, false}
+use Prim.Native.Nat.{ℕ, _/_, _%_, _^_}
+use mathlib.Core.Bool.{Bool, true}
 use mathlib.Core.List.{List}
 use lib.Dec.{eqb}
 use Rattle.memory.specs.declared.PageWord.{PageWord}
@@ -8,11 +8,11 @@ use Rattle.memory.specs.declared.Src.the-variants.{CiRam, ExRam}
 use Rattle.memory.specs.Words.{pick, page, blank, wordOf}
 use Rattle.banks.specs.Placed.{placed}
 
--- "four selectors of two bits": the i-th of them, counted round.
+-- "four selectors of two bits": number i mod 4, from the lowest bits on.
 unfoldable pub selector : ℕ → ℕ → ℕ
 selector n i = n / 4 ^ (i % 4) % 4
 
--- 0 and 1 are CIRAM's two pages, 2 is ExRAM, 3 is Fill.
+-- 0 and 1 are CIRAM's two pages, 2 is ExRAM, 3 is Fill, as in the Rust's `update_nametables`; what can be written is marked so.
 unfoldable pub namePage : ℕ → Bool → PageWord
 namePage s asName =
     pick (eqb s 0) (wordOf (page CiRam 0 true))

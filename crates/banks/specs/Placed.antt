@@ -1,4 +1,4 @@
--- A table with the n entries from a place on written anew.
+-- A table with the n entries from a place on written anew: entry at + k becomes f k, for k under n.
 use Prim.Native.Nat.{ℕ, zero, suc, _+_}
 use mathlib.Core.List.{List}
 use lib.ListN.{set}

@@ -2,7 +2,7 @@
 -- 16k pairs clear bit 0 for the first window and set it for the second. 32k clears two low bits of $5117. $5117's windows are always ROM.
 -- RAM pages are writable only with $5102 = 2 and $5103 = 1."
 use Prim.Native.Nat.{ℕ, zero, suc, _+_, _*_, _/_, _%_}
-use mathlib.Core.Bool.{Bool, true, false}
+use mathlib.Core.Bool.{Bool, false}
 use mathlib.Core.List.{List, [], _∷_}
 use lib.Dec.{eqb, leb, ltb}
 use lib.ListN.{getD}

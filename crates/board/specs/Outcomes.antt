@@ -1,5 +1,4 @@
 -- What a call gives back, and what a refusal gives back. 01: "Any other refusal returns the state given and writes nothing".
-use Prim.Native.Nat.{ℕ}
 use Rattle.memory.specs.Bytes.{Mem}
 use Rattle.answers.specs.declared.Answer.{Answer}
 use Rattle.answers.specs.declared.Answer.the-variants.{Refused}
@@ -23,7 +22,7 @@ pub record After : Type 0 where
 abbrev pub afterOf : Outcome → Mem → After
 afterOf o m = record { out = o; mem = m }
 
--- Behind the gate, or else what its refusal gives.
+-- What stands behind the gate where it is open, or what its refusal gives where it is shut.
 abbrev pub behind : {A : Type 0} → Gate → (Refusal → A) → A → A
 behind Open f x = x
 behind (Shut r) f x = f r

@@ -34,7 +34,7 @@ mirroringCall s = pick (not (inRange s)) (Refused StateBroken) (Is (s .screen .m
 unfoldable pub interruptCall : State → Interrupt
 interruptCall s = pick (not (inRange s)) (NotTold StateBroken) (pick (interruptUp (s .irq)) Up Down)
 
--- 01, "Fetches, runs, breaks": a clock is the detector's.
+-- 01, "Fetches, runs, breaks": a clock moves the detector alone.
 unfoldable pub clockCall : State → Outcome
 clockCall s = pick (not (inRange s)) (refused s StateBroken) (outcome Nothing (withIrq s (clocked (s .irq))))
 

@@ -6,7 +6,6 @@ use lib.Dec.{ltb}
 use Rattle.memory.specs.declared.PageWord.{PageWord}
 use Rattle.memory.specs.Bytes.{Mem}
 use Rattle.memory.specs.Words.{pick}
-use Rattle.answers.specs.declared.Answer.{Answer}
 use Rattle.answers.specs.declared.Refusal.the-variants.{Counter, Split}
 use Rattle.banks.specs.Chr.{chrMapped}
 use Rattle.cpu.specs.Chosen.{chosen}

@@ -9,16 +9,16 @@ use Rattle.state.specs.declared.PpuStatus.{PpuStatus}
 use Rattle.state.specs.With.{withBgSet, withBgWritten}
 use Rattle.cpu.specs.Groups.{within}
 
--- The last CHR write, as a choice finds it.
+-- Whether the last CHR write was to the background's registers, once a choice in 8x8 has made it one to the sprites'.
 abbrev pub lastToBackground : PpuStatus → Bool
 lastToBackground p = p .sprite8x16 && p .«bg_written»
 
--- The set that is then wanted.
+-- The status after a choice: that, and the set that rule 5 then gives.
 unfoldable pub chosen : PpuStatus → Bool → PpuStatus
 chosen p framed =
     withBgSet (withBgWritten p (lastToBackground p)) (background (p .sprite8x16) (spriteFetch (p .«tile_number»)) framed (lastToBackground p))
 
--- A CPU write: to the sprites' registers $5120-$5127, the background's $5128-$512B, or to $5101.
+-- A CPU write: to the sprites' registers $5120-$5127, to the background's $5128-$512B, or to $5101, it chooses; no other does.
 unfoldable pub ppuAfter : PpuStatus → Bool → ℕ → PpuStatus
 ppuAfter p framed a =
     pick (eqb a 0x5101) (chosen p framed)

@@ -1,7 +1,7 @@
 -- A CPU write. 01, "The board we take": "a CPU write does the register, then the page." Which writes map which pages: rules 4, 5 and 6, and in
 -- the Rust the arms of `write_register`.
-use Prim.Native.Nat.{ℕ, _+_, _-_, _/_}
-use mathlib.Core.Bool.{Bool, true, false, _&&_, _||_}
+use Prim.Native.Nat.{ℕ, _-_, _/_}
+use mathlib.Core.Bool.{Bool, _&&_, _||_}
 use mathlib.Core.List.{List}
 use lib.Dec.{eqb, leb}
 use lib.ListN.{getD, set}
@@ -70,7 +70,7 @@ latched mode rendering a v l = pick (within 0x5C00 0x5FFF a && leb mode 1) (set 
 abbrev pub prgWordAt : List PageWord → ℕ → PageWord
 prgWordAt pages a = getD pages (a / 1024) (word 0)
 
--- The buffers after a write: ExRAM's own way, then the page that the table then shows.
+-- The buffers after a write: rule 6's own store into ExRAM in modes 0 and 1, then the store through the page that is shown after the register write.
 unfoldable pub cpuStored : State → Mem → ℕ → ℕ → Mem
 cpuStored s m a v =
     pageStored

@@ -28,7 +28,7 @@ pub record Board : Type 0 where
 
 -- 01, "The board we take": "CPU read and peek, CPU write, PPU register write, PPU fetch and peek, sprite peek (`chr_peek_spr`), PPU memory
 -- write, clock, reset, both page tables, `mirroring`, and whether the interrupt is up", and the page views. The seven kinds that a trace has
--- are `Call`; the others look only.
+-- are `Call`; the others look only. Both page tables are fields of the state that a call leaves.
 pub data Made : Type 0 where
   call : (c : Call) → Made
   peek : (a : CpuAddr) → Made

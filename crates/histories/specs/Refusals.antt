@@ -3,10 +3,8 @@
 -- Assumes nothing.
 use Prim.Native.Nat.{ℕ}
 use mathlib.Core.Path.{_≡_}
-use mathlib.Core.Bool.{Bool, true, false, not}
-use lib.Dec.{eqb}
+use mathlib.Core.Bool.{Bool, not}
 use lib.ListN.{length}
-use Rattle.memory.specs.Bytes.{Mem}
 use Rattle.memory.specs.Words.{pick}
 use Rattle.state.specs.Gate.{sameLengths}
 use Rattle.state.specs.Ranges.{inRange}

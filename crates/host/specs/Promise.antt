@@ -1,4 +1,4 @@
--- What is promised of refusals over lent words, as one statement, which the contract of `promises` holds. 01, demand 1: "A refusal .. returns the
+-- What is promised of refusals over lent words, as one statement, which the contract of `promises` holds. 00, demand 1: "A refusal .. returns the
 -- state as handed in and writes no byte". Which calls are refused, and with what number, is `WhoIsRefused` of crate `promises`.
 use mathlib.Core.Bool.{true, false}
 use mathlib.Core.Path.{_≡_}

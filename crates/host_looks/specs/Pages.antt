@@ -52,7 +52,7 @@ pub record Copied : Type 0 where
 abbrev pub copiedOf : ℕ → List ℕ → Copied
 copiedOf n l = record { count = n; bytes = l }
 
--- A whole page is copied, where there is room for just so much; the empty part leaves what was there.
+-- 1,024 bytes are copied, from a whole page to a buffer of just so many; else none, and the buffer stays.
 unfoldable pub copied : List ℕ → List ℕ → Copied
 copied part out = pick (not (eqb (length part) 1024 && eqb (length out) 1024)) (copiedOf 0 out) (copiedOf 1024 part)
 

@@ -38,7 +38,7 @@ replayOn w trace m log =
     (pick (not (good (w .bytes))) (hostedOf (endingTold (Stopped 0 StateBroken)) w m log)
     (hosting (replayed (stateOf w) trace m log)))
 
--- The number that an ending tells beside a refusal: a count or a place.
+-- The count, or the place.
 abbrev pub lastOf : Ending → ℕ
 lastOf (Done count) = count
 lastOf (Stopped place why) = place

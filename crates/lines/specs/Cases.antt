@@ -9,7 +9,7 @@ use lib.Dec.{eqb, T}
 use Rattle.memory.specs.Words.{pick}
 use Rattle.scanline.specs.Steps.{statusOf, interruptUp}
 use Rattle.lines.specs.Events.{Event}
-use Rattle.lines.specs.Events.Event.{clock, fetch, cpuRead, cpuWrite, ppuWrite, other}
+use Rattle.lines.specs.Events.Event.{clock, fetch, cpuRead, cpuWrite, ppuWrite}
 use Rattle.lines.specs.Told.{History, lineAt, inFrame, Waiting, newLines, calm, flag, up}
 use Rattle.lines.specs.Machine.{watched, allowed}
 use Rattle.lines.specs.Promise.{Reached}

@@ -5,7 +5,7 @@ use mathlib.Core.Bool.{Bool, true, false, _&&_, _||_}
 use lib.Dec.{leb, eqb}
 
 -- A clock; a PPU fetch at an address; a CPU read at an address; a CPU write of a value; a PPU register write of a value; any other call:
--- a peek, a reset, a PPU memory write.
+-- a peek, a reset, a PPU memory write, a page view, mirroring or interrupt asked.
 pub data Event : Type 0 where
   clock : Event
   fetch : (addr : ℕ) → Event

@@ -4,8 +4,8 @@
 -- Assumes nothing.
 use Prim.Native.Nat.{ℕ}
 use mathlib.Core.Path.{_≡_}
-use mathlib.Core.Bool.{Bool, true, false}
-use mathlib.Core.List.{List, [], _∷_}
+use mathlib.Core.Bool.{true, false}
+use mathlib.Core.List.{_∷_}
 use mathlib.Core.Logic.{_↔_}
 use Rattle.lines.specs.Events.{Event, fetches, counts, address}
 use Rattle.lines.specs.Told.{History, breaks, noneOf, lineAt}

@@ -9,7 +9,7 @@ use mathlib.Core.List.{List, [], _∷_, _++_}
 use mathlib.Core.Option.{Option, none, some}
 use lib.Dec.{leb, eqb}
 use Rattle.memory.specs.Words.{pick}
-use Rattle.lines.specs.Events.{Event, isClock, fetches, reads, writes, darkens, address, value, counts, vectors, clears}
+use Rattle.lines.specs.Events.{Event, isClock, fetches, writes, darkens, address, value, counts, vectors, clears}
 
 abbrev pub History : Type 0
 History = List Event

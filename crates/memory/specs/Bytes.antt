@@ -1,7 +1,6 @@
 -- The five lent buffers, the byte that a page and an address name, and a store through a page.
 -- 01, module 1: "1,024 bytes each .. Blank reads 0 and takes no write."
 use Prim.Native.Nat.{ℕ, _+_, _*_, _%_}
-use mathlib.Core.Bool.{Bool, true, false}
 use mathlib.Core.List.{List}
 use lib.ListN.{getD, set}
 use Rattle.memory.specs.declared.Page.{Page}
@@ -33,7 +32,7 @@ offsetOf ExRam i a = i * 1024 + a % 1024
 abbrev pub placeOf : Page → ℕ → Place
 placeOf p a = record { src = p .src; offset = offsetOf (p .src) (p .index) a }
 
--- The byte at a place.
+-- The byte at a place, 0 past the end of its buffer.
 unfoldable pub byteAt : Mem → Src → ℕ → ℕ
 byteAt m Blank i = 0
 byteAt m PrgRom i = getD (m .prg) i 0
@@ -42,7 +41,7 @@ byteAt m Chr i = getD (m .chr) i 0
 byteAt m CiRam i = getD (m .ciram) i 0
 byteAt m ExRam i = getD (m .exram) i 0
 
--- The buffers with the byte at a place stored. Blank takes no write, nor does PRG-ROM.
+-- The buffers with the byte at a place stored; nothing past the end of its buffer. Blank takes no write, nor does PRG-ROM.
 unfoldable pub storedAt : Mem → Src → ℕ → ℕ → Mem
 storedAt m Blank i v = m
 storedAt m PrgRom i v = m

@@ -1,5 +1,5 @@
 -- Page words: which word names which page. What the customer must believe of them is short: blank is one word of its own, and each page
--- that a buffer within 01's lengths can have, marked writable or not, has a word of its own (`proofs/WordLaws.antt`). The numbers are chosen
+-- that a buffer within 01's lengths can have, marked writable where 01 allows it, has a word of its own (`Pages` in Promise.antt). The numbers are chosen
 -- so that the words that a page table may hold lie in a row (`tables.rt`).
 -- 01, module 1: "1,024 bytes each; 64 PRG, 16 CHR. Blank reads 0 and takes no write."
 use Prim.Native.Nat.{ℕ, _+_, _*_, _-_, _/_, _%_}
@@ -54,7 +54,7 @@ numberOf PrgRam i w = 65535 - (2 * (i % 64) + flag w)
 abbrev pub wordOf : Page → PageWord
 wordOf p = word (numberOf (p .src) (p .index) (p .writable))
 
--- The page that a word names. Numbers that no page was given name CHR pages past every buffer.
+-- The page that a word names. The numbers 3,079 to 65,407 belong to no page: they name CHR pages 1,024 and up, which no buffer has.
 unfoldable pub pageOf : PageWord → Page
 pageOf p =
     pick (ltb (p .0) 1) blank
@@ -66,7 +66,7 @@ pageOf p =
     (page PrgRam ((65535 - p .0) / 2) (eqb ((65535 - p .0) % 2) 1)))))))
 
 -- The words that a PRG table may hold are one run of 16-bit numbers, from PRG-RAM's last page past the greatest number and on to PRG-ROM's last:
--- a word's place in the run, and how many places it has.
+-- a word's place in the run, and how many places it has. They serve `tables.rt` and state no sentence of 01.
 abbrev pub prgPlace : ℕ → PageWord → ℕ
 prgPlace ram p = (p .0 + 2 * (ram / 1024)) % 65536
 

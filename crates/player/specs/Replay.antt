@@ -12,7 +12,7 @@ use Rattle.answers.specs.declared.Refusal.the-variants.{Length}
 use Rattle.scanline.specs.Steps.{interruptUp}
 use Rattle.state.specs.declared.State.{State}
 use Rattle.state.specs.Gate.{gateMem}
-use Rattle.board.specs.Outcomes.{After, behind}
+use Rattle.board.specs.Outcomes.{behind}
 use Rattle.trace.specs.declared.Call.{Call}
 use Rattle.trace.specs.declared.Found.{Found}
 use Rattle.trace.specs.declared.Found.the-variants.{End, Record, Refused as Unreadable}
@@ -64,7 +64,7 @@ playedFrom (suc n) trace at count s m log =
     (λ (why : Refusal). ended (Stopped at why) s m log)
     (playedFrom n trace next (count + 1) (after .out .state) (after .mem) (logged log count (after .out .answer) (interruptUp (after .out .state .irq)))))
 
--- All records of a trace. A record has at least one byte, so a trace has no more records than bytes (specs/Promise.antt, `enough`).
+-- All records of a trace. A record has at least one byte, so a trace has no more records than bytes (specs/Promise.antt, `Enough`).
 abbrev pub played : State → List ℕ → Mem → List ℕ → Left
 played s trace m log = playedFrom (length trace + 1) trace 0 0 s m log
 

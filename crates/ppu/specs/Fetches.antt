@@ -2,7 +2,7 @@
 -- cache (in attribute mode, not at an attribute address, tile count outside 32-39: the address's low ten bits); run and line (third and later
 -- equals zero the tile count); split; answer."
 use Prim.Native.Nat.{ℕ, _%_}
-use mathlib.Core.Bool.{Bool, _&&_, not}
+use mathlib.Core.Bool.{_&&_, not}
 use Rattle.memory.specs.Words.{pick}
 use Rattle.registers.specs.declared.Regs.{Regs}
 use Rattle.registers.specs.Registers.{attributeUse, nametableUse}

@@ -24,7 +24,7 @@ pub record NotLoaded (n : ℕ) (o : Outcome) : Type 0 where
   pub zero : o .state ≡ zeroState
   pub marked : o .state .lengths .loaded ≡ false
 
--- Of a buffer's length: 1, "PRG-ROM not a multiple of 8,192 bytes from 8,192 to 1,048,576"; 2, "CHR not a multiple of 1,024 from 0 to
+-- Of a buffer's length, refused where the test is false: 1, "PRG-ROM not a multiple of 8,192 bytes from 8,192 to 1,048,576"; 2, "CHR not a multiple of 1,024 from 0 to
 -- 1,048,576"; 3, "PRG-RAM not a multiple of 1,024 from 0 to 65,536, CIRAM not 2,048 or ExRAM not 1,024".
 abbrev pub goodPrg : Mem → Bool
 goodPrg m = prgTaken (length (m .prg))

@@ -1,10 +1,9 @@
 -- One clock, over the part of the detector that it looks at and changes.
 -- 01, "Fetches, runs, breaks": "A break is .. each third clock of an unbroken row of idle clocks. A clock is idle if no such fetch came
 -- since the clock before, or since load."
-use Prim.Native.Nat.{ℕ, _+_, _%_}
+use Prim.Native.Nat.{_+_, _%_}
 use mathlib.Core.Bool.{Bool, false, _&&_, not}
 use lib.Dec.{leb, eqb}
-use Rattle.answers.specs.declared.Answer.{Answer}
 use Rattle.answers.specs.declared.Answer.the-variants.{Nothing, Refused}
 use Rattle.answers.specs.declared.Refusal.the-variants.{State}
 use Rattle.memory.specs.Words.{pick}
@@ -31,7 +30,7 @@ withRecord d r = record {
   «irq_scanline» = d .«irq_scanline»;
 }
 
--- this clock is the third of an unbroken row of idle clocks: it is idle, and two were idle before it
+-- this clock is the third (or sixth, ..) of an unbroken row of idle clocks: it is idle, and two were idle since the row began or last broke
 abbrev pub third : ClockRecord → Bool
 third r = not (r .reading) && eqb (r .«idle_count» + 1) 3
 

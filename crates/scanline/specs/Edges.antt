@@ -1,7 +1,7 @@
 -- Worked cases at the edges, one list under one statement: what a definition gives, and what 01 or the Rust says.
 -- 01, "Examples at the edges": "In frame, line counter 65,278 takes a line, 65,279 refuses."
-use Prim.Native.Nat.{ℕ, _+_}
-use mathlib.Core.Bool.{Bool, true, false, not, _&&_}
+use Prim.Native.Nat.{ℕ}
+use mathlib.Core.Bool.{Bool, true, false, _&&_}
 use mathlib.Core.List.{List, [], _∷_, _++_}
 use lib.Dec.{eqb, T}
 use Rattle.memory.specs.Words.{pick}
@@ -28,7 +28,7 @@ fails b = record { gives = yes b; says = 0 }
 abbrev pub is : ℕ → ℕ → Case
 is n k = record { gives = n; says = k }
 
--- after m fetches at $2000 equal to the one before them, with an idle count of i, in frame or not, at line n; the target is 5
+-- after m fetches at $2000 equal to the one before them, with an idle count of i, in frame or not, at line n, with the interrupt's flag or not; the interrupt is disabled and the target is 5
 abbrev pub at : ℕ → ℕ → Bool → ℕ → Bool → Detector
 at m i framed n flag = record {
   «prev_some» = true;

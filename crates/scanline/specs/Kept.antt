@@ -28,7 +28,7 @@ pub record RangesKept : Type 0 where
   -- the tile count between the fetch's parts, and after it
   pub raised : (d : Detector) (t a : ℕ) → countedAt a ≡ true → counterRefused d t a ≡ false → tilesOk t ≡ true → tilesOk (raisedBy t a) ≡ true
   pub tiles : (d : Detector) (t a : ℕ) → countedAt a ≡ true → counterRefused d t a ≡ false → tilesOk t ≡ true → tilesOk (leftAfter (matchesAfter d a) (raisedBy t a)) ≡ true
-  -- within the ranges the code's sums fit
+  -- within the ranges no sum of lib.rt overflows
   pub idle-fits : (d : Detector) → rangesOk d ≡ true → d .«idle_count» ≤ 2
   pub line-fits : (d : Detector) → rangesOk d ≡ true → d .scanline < 65535
 

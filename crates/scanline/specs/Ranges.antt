@@ -1,5 +1,5 @@
 -- What the detector's numbers may be, and when a fetch is refused for them.
-use Prim.Native.Nat.{ℕ, _+_}
+use Prim.Native.Nat.{ℕ}
 use mathlib.Core.Bool.{Bool, _&&_, _||_}
 use lib.Dec.{leb, ltb}
 use Rattle.scanline.specs.declared.Detector.{Detector}

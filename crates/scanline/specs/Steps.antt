@@ -1,10 +1,10 @@
 -- The detector after each call that it can tell from another, and what it answers.
--- 01, "Fetches, runs, breaks"; the sentence stands above each definition.
+-- Words in quotes are 01's, "Fetches, runs, breaks", where no other place is named. The definitions of a fetch are asked for addresses at
+-- $2000-$3EFF only (`countedAt`).
 use Prim.Native.Nat.{ℕ, _+_, _/_, _%_, min}
 use mathlib.Core.Bool.{Bool, true, false, _&&_, _||_}
 use lib.Dec.{leb, eqb}
 use Rattle.memory.specs.Words.{pick}
-use Rattle.memory.specs.declared.PpuAddr.{PpuAddr}
 use Rattle.scanline.specs.declared.Detector.{Detector}
 use Rattle.scanline.specs.Clock.{recordOf, withRecord, tick}
 
@@ -25,11 +25,11 @@ loaded = record {
 
 -- A fetch at $2000-$3EFF ------------------------------------------------------------------------------------------------------------
 
--- it is at $2000-$2FFF, and equals the fetch before it, with no break between
+-- it is not above $2FFF, and equals the fetch before it, with no break between
 unfoldable pub again : Detector → ℕ → Bool
 again d a = leb a 0x2FFF && (d .«prev_some» && eqb a (d .«prev_addr» .0))
 
--- how many equal fetches stand before it in its run; the Rust holds the count at 255
+-- how many equal fetches stand before it in its run, none from $3000 on (docs/DECISIONS.md, first reading); the Rust holds the count at 255
 unfoldable pub matchesAfter : Detector → ℕ → ℕ
 matchesAfter d a = pick (again d a) (min (d .«match_count» + 1) 255) 0
 
@@ -38,11 +38,11 @@ matchesAfter d a = pick (again d a) (min (d .«match_count» + 1) 255) 0
 unfoldable pub isLine : Detector → ℕ → Bool
 isLine d a = eqb (matchesAfter d a) 2
 
--- "lines count from 0 after load and each break"
+-- 00, demand 3: "lines count from 0 after load and each break"
 abbrev pub lineNumber : Detector → ℕ
 lineNumber d = pick (d .«in_frame») (d .scanline + 1) 0
 
--- "a line numbered 1 or more equalled the value last written to $5203"
+-- 00, demand 3: "a line numbered 1 or more equalled the value last written to $5203"
 unfoldable pub meets : Detector → ℕ → Bool
 meets d a = isLine d a && (d .«in_frame» && eqb (d .scanline + 1) (d .«irq_scanline»))
 
@@ -113,7 +113,7 @@ withTarget d on n = record {
   «irq_scanline» = n;
 }
 
--- "the value last written to $5203"
+-- 00, demand 3: "the value last written to $5203"
 abbrev pub targeted : Detector → ℕ → Detector
 targeted d v = withTarget d (d .«irq_enabled») v
 
@@ -121,7 +121,7 @@ targeted d v = withTarget d (d .«irq_enabled») v
 abbrev pub bit7 : ℕ → Bool
 bit7 v = eqb (v / 128 % 2) 1
 
--- "the last write to $5204 had bit 7 set"; an easy error is "clearing the flag on a $5204 disable"
+-- 00, demand 3: "the last write to $5204 had bit 7 set"; 01, "Easy errors": "clearing the flag on a $5204 disable"
 abbrev pub enabledBy : Detector → ℕ → Detector
 enabledBy d v = withTarget d (bit7 v) (d .«irq_scanline»)
 
@@ -131,6 +131,6 @@ enabledBy d v = withTarget d (bit7 v) (d .«irq_scanline»)
 abbrev pub statusOf : Detector → ℕ
 statusOf d = pick (d .pending) 128 0 + pick (d .«in_frame») 64 0
 
--- "The interrupt is up exactly when the flag is set and the last write to $5204 had bit 7 set."
+-- 00, demand 3: "The interrupt is up exactly when the flag is set and the last write to $5204 had bit 7 set."
 abbrev pub interruptUp : Detector → Bool
 interruptUp d = d .pending && d .«irq_enabled»

@@ -1,12 +1,11 @@
--- The tile count: how a fetch moves it, what it may be, and the four looks at it. All that tells one count from another is `unfoldable`, so
--- that no proof outside this crate leans on the count's own digits.
+-- The tile count: how a fetch moves it, what it may be, and the four looks at it.
 use Prim.Native.Nat.{ℕ, _+_, _%_}
 use mathlib.Core.Bool.{Bool, _&&_}
 use lib.Dec.{leb, ltb}
 use Rattle.memory.specs.Words.{pick}
 use Rattle.scanline.specs.Fetches.{nameAt}
 
--- The four looks. 01, rules 5 and 6: "tile count 32-39".
+-- The four looks. 01, rule 5: "tile count 32-39"; rule 6: "tile count outside 32-39".
 unfoldable pub spriteFetch : ℕ → Bool
 spriteFetch t = leb 32 t && leb t 39
 
@@ -37,6 +36,6 @@ raisedBy t a = pick (nameAt a) (nextTile t) t
 unfoldable pub tileRefused : ℕ → ℕ → Bool
 tileRefused t a = nameAt a && ltb 4294967293 (nextTile t)
 
--- "third and later equals zero the tile count": m equal fetches stood before this one
+-- "third and later equals zero the tile count": m equal fetches stood before this one, none from $3000 on (docs/DECISIONS.md, first reading)
 abbrev pub leftAfter : ℕ → ℕ → ℕ
 leftAfter m t = pick (leb 2 m) 0 t

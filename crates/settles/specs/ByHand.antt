@@ -1,5 +1,5 @@
 -- Five functions whose contracts the prover offers by no name, since they are proved by hand: the lent clock and the trace reader. What their
--- `ensures` say is written again here, word for word; the proofs of these functions hold them to it.
+-- `ensures` say is written again here by reading; nothing checks the copy.
 -- Assumes nothing.
 use Prim.Native.Nat.{ℕ}
 use mathlib.Core.List.{List}

@@ -1,4 +1,4 @@
--- Every public function of every library, crate by crate. The programs' own functions print, and have no contract: docs/DECISIONS.md, "Forms".
+-- Every public function of the libraries up to `transcript`, crate by crate; those of the host's crates are not here. The programs' own functions print, and have no contract: docs/DECISIONS.md, "Forms".
 -- Assumes nothing.
 use Rattle.settles.specs.Leaves.{Memory, Answers, Registers, Banks, Scanline, Split, State, Cpu, Ppu}
 use Rattle.settles.specs.Entries.{Board, BoardPpu, Views, Trace, Calls, Text, Player, Transcript}

@@ -1,4 +1,4 @@
--- 01's words for bits, so that its formulas stand here as they stand there. Assumes nothing.
+-- 01's words for bits, so that its formulas stand here as they stand there.
 use Prim.Native.Nat.{ℕ, _*_, _/_, _%_, _^_}
 use mathlib.Core.Bool.{Bool}
 use lib.Bits.{bitAnd, bitOr}

@@ -1,6 +1,6 @@
 -- What a fetch in the region gets, with t the split tile's address.
 use Prim.Native.Nat.{ℕ, _%_}
-use mathlib.Core.List.{List, [], _∷_}
+use mathlib.Core.List.{[], _∷_}
 use lib.ListN.{getD}
 use Rattle.split.specs.declared.AttributePlace.{AttributePlace}
 use Rattle.split.specs.Bits.{_AND_, _OR_, _<<_, _>>_}
@@ -24,7 +24,7 @@ attributeBits byte shift = (byte >> shift) % 4
 unfoldable pub mirroredByte : ℕ → ℕ
 mirroredByte bits = getD (0x00 ∷ 0x55 ∷ 0xAA ∷ 0xFF ∷ []) (bits % 4) 0
 
--- "the address with its low three bits clear"
+-- "address with its low three bits clear"
 abbrev pub lowThreeClear : ℕ → ℕ
 lowThreeClear addr = (addr >> 3) << 3
 

@@ -17,9 +17,10 @@ pub record Split : Type 0 where
   pub bank-keeps-ranges : (v : VSplit) (n : ℕ) → splitRanges v ≡ true → splitRanges (withBank v n) ≡ true
   pub name-keeps-ranges : (v : VSplit) (column : ℕ) (first : Bool) (scroll : ℕ) → scroll < 240 → splitRanges v ≡ true → splitRanges (afterName v column first scroll) ≡ true
   pub never-refused : (v : VSplit) → splitRanges v ≡ true → splitRefused v ≡ false
-  -- the places lie in a buffer of 1,024 bytes and in one of a mebibyte
+  -- the place lies in a buffer of 1,024 bytes
   pub attribute-inside : (t : ℕ) → attributeAddress t < 1024
   -- one of 0, 2, 4 and 6
   pub shift-small : (t : ℕ) → attributeShift t ≤ 6
   pub shift-even : (t : ℕ) → attributeShift t % 2 ≡ 0
+  -- the offset lies in a mebibyte
   pub pattern-inside : (bank addr scroll : ℕ) → bank < 256 → patternOffset bank addr scroll < 2 ^ 20

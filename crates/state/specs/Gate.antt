@@ -1,8 +1,8 @@
--- Refusals 4 and 5. 01: "4 BUFFERS: a lent length differs from the one recorded at load", "5 STATE: the state handed in breaks a range below",
+-- Refusals 4 and 5. 01: 4, BUFFERS, "a lent length differs from the one recorded at load"; 5, STATE, "the state handed in breaks a range below";
 -- "Checks run in that order, but a state not loaded gives 5 before 4".
 use Prim.Native.Nat.{ℕ}
 use mathlib.Core.Bool.{Bool, not}
-use mathlib.Core.List.{List, [], _∷_}
+use mathlib.Core.List.{[], _∷_}
 use lib.Dec.{eqb}
 use lib.ListN.{length}
 use Rattle.memory.specs.Bytes.{Mem}

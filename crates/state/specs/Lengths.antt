@@ -1,7 +1,7 @@
 -- The lengths that load takes. 01, "Refusal numbers", 1 to 3.
 use Prim.Native.Nat.{ℕ, _%_}
-use mathlib.Core.Bool.{Bool, _&&_}
-use mathlib.Core.List.{List, [], _∷_}
+use mathlib.Core.Bool.{Bool}
+use mathlib.Core.List.{[], _∷_}
 use lib.Dec.{eqb, leb}
 use Rattle.memory.specs.Tests.{conj}
 use Rattle.state.specs.declared.Lengths.{Lengths}
@@ -18,6 +18,6 @@ chrTaken n = conj (eqb (n % 1024) 0 ∷ leb n 1048576 ∷ [])
 abbrev pub ramTaken : ℕ → ℕ → ℕ → Bool
 ramTaken ram ciram exram = conj (eqb (ram % 1024) 0 ∷ leb ram 65536 ∷ eqb ciram 2048 ∷ eqb exram 1024 ∷ [])
 
--- "STATE ranges": "recorded lengths pass load"
+-- "STATE ranges": "recorded lengths pass load", and the state is marked loaded
 unfoldable pub lengthsOk : Lengths → Bool
 lengthsOk z = conj (z .loaded ∷ prgTaken (z .prg) ∷ chrTaken (z .chr) ∷ ramTaken (z .ram) (z .ciram) (z .exram) ∷ [])

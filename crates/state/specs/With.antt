@@ -1,5 +1,4 @@
 -- A state, or its PPU status, with one field changed.
-use Prim.Native.Nat.{ℕ}
 use mathlib.Core.Bool.{Bool}
 use mathlib.Core.List.{List}
 use Rattle.memory.specs.declared.PageWord.{PageWord}

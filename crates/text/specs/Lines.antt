@@ -40,11 +40,12 @@ tooLongLine = line ((0x3F ∷ []) ∷ []) (digits (numberOf Length))
 abbrev pub endLine : ℕ → List ℕ
 endLine count = line ((0x65 ∷ 0x6E ∷ 0x64 ∷ []) ∷ []) (digits count)
 
--- An answer as two bytes of a log: its letter, with 128 more where the interrupt is up, and its value. `R`, `S` and `M` have a value.
+-- `R`, `S` and `M` have a value.
 abbrev pub valued : ℕ → Bool
 valued letter = eqb letter 0x52 || (eqb letter 0x53 || eqb letter 0x4D)
 
--- The line of such a pair. For the two bytes of an answer it is `acceptedLine` (specs/Promise.antt, `logged`).
+-- The line of an answer as a log holds it in two bytes (crate `logs`): its letter, with 128 more where the interrupt is up, and its value. For such a
+-- pair it is `acceptedLine` (specs/Promise.antt, `logged`).
 abbrev pub loggedLine : ℕ → ℕ → ℕ → ℕ → List ℕ
 loggedLine number kind first second =
     line (digits number ∷ digits kind ∷ answerWords (first % 128) (valued (first % 128)) second) (digits (first / 128))

@@ -9,8 +9,8 @@ use Rattle.memory.specs.Words.{pick}
 use Rattle.trace.specs.declared.Numeral.{Numeral}
 use Rattle.trace.specs.declared.Numeral.the-variants.{Sound, Cut, Padded, Above}
 
--- "lowest group first": groups that say `low`, then a number of which each one counts `weight`. "shortest form only": where that number is 0,
--- it is padding.
+-- "lowest group first": behind groups worth `low`, a number `high` of which each one counts `weight`. "shortest form only": where it is 0, it is
+-- padding.
 unfoldable pub over : ℕ → ℕ → Numeral → Numeral
 over low weight (Sound high next) = pick (eqb high 0) Padded (Sound (low + weight * high) next)
 over low weight Cut = Cut

@@ -2,7 +2,7 @@
 use Prim.Native.Nat.{ℕ, _+_, _/_}
 use mathlib.Core.Bool.{false}
 use mathlib.Core.List.{List}
-use lib.ListN.{length, replicate}
+use lib.ListN.{replicate}
 use Rattle.memory.specs.Bytes.{Mem, memOf}
 use Rattle.registers.specs.declared.Mirroring.the-variants.{Horizontal}
 use Rattle.banks.specs.Placed.{placed}

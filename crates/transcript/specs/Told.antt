@@ -1,20 +1,16 @@
 -- The lines of a replay by the board's definitions alone: no log is looked at. What is printed is these lines, wherever the log has room.
 -- Assumes nothing.
 use Prim.Native.Nat.{ℕ, zero, suc, _+_, _*_, _≤_}
-use mathlib.Core.Bool.{false}
 use mathlib.Core.List.{List, [], _++_}
 use mathlib.Core.Path.{_≡_}
 use lib.ListN.{length}
 use Rattle.memory.specs.Bytes.{Mem}
-use Rattle.memory.specs.Words.{pick}
 use Rattle.answers.specs.declared.Refusal.{Refusal}
-use Rattle.registers.specs.declared.Mirroring.the-variants.{Horizontal}
 use Rattle.scanline.specs.Steps.{interruptUp}
 use Rattle.state.specs.declared.State.{State}
-use Rattle.board.specs.Loads.{loadCall}
 use Rattle.trace.specs.declared.Call.{Call}
-use Rattle.trace.specs.Records.{kindOf, recordAt, tooLong}
-use Rattle.text.specs.Lines.{acceptedLine, refusedLine, unreadableLine, tooLongLine, endLine}
+use Rattle.trace.specs.Records.{kindOf, recordAt}
+use Rattle.text.specs.Lines.{acceptedLine, refusedLine, unreadableLine, endLine}
 use Rattle.calls.specs.Called.{called}
 use Rattle.player.specs.Replay.{found, answered, playedFrom}
 use Rattle.transcript.specs.Printed.{printedFrom}

@@ -31,11 +31,11 @@ pub record Words : Type 0 where
 abbrev pub wordsAt : List ℕ → List ℕ → List ℕ → List ℕ → List ℕ → List ℕ → List ℕ → Words
 wordsAt b h w p c pp cp = record { bytes = b; halves = h; wide = w; prgBanks = p; chrBanks = c; prgPages = pp; chrPages = cp }
 
--- A byte that is 0 or 1.
+-- A flag: its byte is 1. A byte above 1 is refused by `good`.
 abbrev pub flagAt : List ℕ → ℕ → Bool
 flagAt l k = eqb (getD l k 0) 1
 
--- The five mirrorings by number.
+-- The five mirrorings by number; FourScreen is 4, and what is above.
 abbrev pub mirroringNumbered : ℕ → Mirroring
 mirroringNumbered n =
     pick (eqb n 0) Horizontal
