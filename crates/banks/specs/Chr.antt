@@ -1,4 +1,4 @@
--- CHR banks. 01, rule 5: "Page = ((bank OR hi) << shift) + place in window; shifts 3, 2, 1, 0. Set: sprite if 8x8, or tile count 32-39, or out
+-- CHR banks. 01, module 5: "Page = ((bank OR hi) << shift) + place in window; shifts 3, 2, 1, 0. Set: sprite if 8x8, or tile count 32-39, or out
 -- of frame with the last CHR write a sprite one; else background."
 use Prim.Native.Nat.{ℕ, _+_, _-_, _*_, _/_, _%_}
 use mathlib.Core.Bool.{Bool, _||_, not, _&&_}

@@ -1,4 +1,4 @@
--- Nametables. 01, rule 3: "$5105 gives four selectors of two bits." Rule 6: "Without nametable use ExRAM maps blank; Fill always maps blank".
+-- Nametables. 01, module 3: "$5105 gives four selectors of two bits." Module 6: "Without nametable use ExRAM maps blank; Fill always maps blank".
 use Prim.Native.Nat.{ℕ, _/_, _%_, _^_}
 use mathlib.Core.Bool.{Bool, true}
 use mathlib.Core.List.{List}

@@ -1,4 +1,4 @@
--- PRG banks. 01, rule 4: "$6000 always PRG-RAM bank `$5113 & 7`. Elsewhere bit 7 set means ROM with seven bits, clear means RAM with three.
+-- PRG banks. 01, module 4: "$6000 always PRG-RAM bank `$5113 & 7`. Elsewhere bit 7 set means ROM with seven bits, clear means RAM with three.
 -- 16k pairs clear bit 0 for the first window and set it for the second. 32k clears two low bits of $5117. $5117's windows are always ROM.
 -- RAM pages are writable only with $5102 = 2 and $5103 = 1."
 use Prim.Native.Nat.{ℕ, zero, suc, _+_, _*_, _/_, _%_}
@@ -29,12 +29,13 @@ quarter v i = v / 4 * 4 + i
 abbrev pub rom : ℕ → ℕ
 rom v = 128 + v % 128
 
--- The values that the windows at $6000, $8000, $A000, $C000 and $E000 show, by mode, from the registers $5113-$5117.
+-- The values that the windows at $6000, $8000, $A000, $C000 and $E000 show, by mode, from the registers $5113-$5117. Which register a window has in
+-- modes 1 to 3, 01 does not say: it is the Rust's `update_prg_banks` ($5115 at $8000; docs/DECISIONS.md).
 unfoldable pub prgValues : ℕ → List ℕ → List ℕ
 prgValues mode b =
     getD b 0 0 % 8
     ∷ pick (eqb mode 0)
-    (rom (getD b 4 0) / 4 * 4 ∷ quarter (rom (getD b 4 0)) 1 ∷ quarter (rom (getD b 4 0)) 2 ∷ quarter (rom (getD b 4 0)) 3 ∷ [])
+    (quarter (rom (getD b 4 0)) 0 ∷ quarter (rom (getD b 4 0)) 1 ∷ quarter (rom (getD b 4 0)) 2 ∷ quarter (rom (getD b 4 0)) 3 ∷ [])
     (pick (eqb mode 1)
     (pairFirst (getD b 2 0) ∷ pairSecond (getD b 2 0) ∷ pairFirst (rom (getD b 4 0)) ∷ pairSecond (rom (getD b 4 0)) ∷ [])
     (pick (eqb mode 2)
@@ -59,6 +60,6 @@ windowsMapped prg ram free values pages (suc n) =
 abbrev pub prgMapped : ℕ → ℕ → Regs → List ℕ → List PageWord → List PageWord
 prgMapped prg ram g b pages = windowsMapped prg ram (unlocked g) (prgValues (g .«prg_mode») b) pages 5
 
--- The page at $5C00. Rule 3: "CPU read in 2, 3; page write only in 2".
+-- The page at $5C00. Module 3: "CPU read in 2, 3; page write only in 2".
 unfoldable pub exramPage : ℕ → PageWord
 exramPage mode = pick (ltb mode 2) (wordOf blank) (wordOf (page ExRam 0 (eqb mode 2)))

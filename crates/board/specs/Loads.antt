@@ -1,4 +1,4 @@
--- Load. 01, rule 10: "Load writes no lent byte; it gives $5117 bit 7 set and the last bank, multiplier 255 x 255, fill tile 255, fill attribute 3,
+-- Load. 01, module 10: "Load writes no lent byte; it gives $5117 bit 7 set and the last bank, multiplier 255 x 255, fill tile 255, fill attribute 3,
 -- modes 8k and 1k, all else 0, off, none or sprite, then maps."
 use Prim.Native.Nat.{ℕ, _+_, _-_, _/_, _%_}
 use mathlib.Core.Bool.{Bool, true, false, not}

@@ -19,7 +19,7 @@ use Rattle.board.specs.declared.Told.{Told}
 use Rattle.board.specs.declared.Told.the-variants.{Is, Refused}
 use Rattle.board.specs.Outcomes.{outcome, refused}
 
--- 01, rule 10: "Reset sets modes 8k and 1k and maps nothing."
+-- 01, module 10: "Reset sets modes 8k and 1k and maps nothing."
 abbrev pub resetRegs : Regs → Regs
 resetRegs g =
     record { «prg_mode» = 3; «chr_mode» = 3; «protect_a» = g .«protect_a»; «protect_b» = g .«protect_b»; «exram_mode» = g .«exram_mode»; «exram_chosen» = g .«exram_chosen»; nametables = g .nametables; «fill_tile» = g .«fill_tile»; «fill_attr» = g .«fill_attr»; «chr_hi» = g .«chr_hi»; multiplicand = g .multiplicand; multiplier = g .multiplier }

@@ -1,4 +1,4 @@
--- A PPU fetch. 01, "Fetches, runs, breaks" and rules 5 to 8.
+-- A PPU fetch. 01, "Fetches, runs, breaks" and modules 5 to 8.
 use Prim.Native.Nat.{ℕ}
 use mathlib.Core.Bool.{Bool, _&&_, _||_, not}
 use mathlib.Core.List.{List}
@@ -44,7 +44,7 @@ countedCall s m a =
     pick (splitServes (s .regs) (countedSplit s a) (countedIrq s a .«in_frame») && splitRefused (countedSplit s a)) (refused s Split)
     (outcome (countedServed (s .regs) (countedSplit s a) (countedIrq s a .«in_frame») (countedPpu s a) (m .exram) a (chrAnswer (s .«chr_pages») m a)) (countedState s a))
 
--- Rule 5: "A pattern fetch chooses first, mapping only on a change".
+-- Module 5: "A pattern fetch chooses first, mapping only on a change".
 abbrev pub setChanged : Bool → Bool → Bool
 setChanged before after = (before && not after) || (not before && after)
 

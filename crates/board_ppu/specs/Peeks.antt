@@ -32,7 +32,7 @@ ppuPeek s m a =
     (pick (ltb a 0x2000) (patternServed (s .regs) (s .vsplit) (s .irq) (s .ppu) (m .exram) (m .chr) a (chrAnswer (s .«chr_pages») m a))
     (chrAnswer (s .«chr_pages») m a)))
 
--- Rule 5: "The sprite peek answers none in 8x8 or from $2000 on, else the CHR byte the sprite set would map there."
+-- Module 5: "The sprite peek answers none in 8x8 or from $2000 on, else the CHR byte the sprite set would map there."
 unfoldable pub spritePeek : State → Mem → ℕ → Answer
 spritePeek s m a =
     behind (gateMem s m) Refused

@@ -1,4 +1,4 @@
--- The choice of a CHR set. 01, rule 5: "Choosing in 8x8 first makes the last CHR write a sprite one."
+-- The choice of a CHR set. 01, module 5: "Choosing in 8x8 first makes the last CHR write a sprite one."
 use Prim.Native.Nat.{ℕ}
 use mathlib.Core.Bool.{Bool, true, false, _&&_}
 use lib.Dec.{eqb}
@@ -13,7 +13,7 @@ use Rattle.cpu.specs.Groups.{within}
 abbrev pub lastToBackground : PpuStatus → Bool
 lastToBackground p = p .sprite8x16 && p .«bg_written»
 
--- The status after a choice: that, and the set that rule 5 then gives.
+-- The status after a choice: that, and the set that module 5 then gives.
 unfoldable pub chosen : PpuStatus → Bool → PpuStatus
 chosen p framed =
     withBgSet (withBgWritten p (lastToBackground p)) (background (p .sprite8x16) (spriteFetch (p .«tile_number»)) framed (lastToBackground p))

@@ -31,7 +31,7 @@ irqAfter d a v =
 unfoldable pub prgBanksAfter : List ℕ → ℕ → ℕ → List ℕ
 prgBanksAfter b a v = pick (within 0x5113 0x5117 a) (set b (a - 0x5113) v) b
 
--- $5120-$512B. 01, rule 5: "$5128-$512B store at index + 4 too."
+-- $5120-$512B. 01, module 5: "$5128-$512B store at index + 4 too."
 unfoldable pub chrBanksAfter : List ℕ → ℕ → ℕ → List ℕ
 chrBanksAfter b a v =
     pick (within 0x5120 0x5127 a) (set b (a - 0x5120) v)

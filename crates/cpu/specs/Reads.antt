@@ -32,7 +32,8 @@ shownAs ExRam v = FromPage v
 unfoldable pub pageAnswer : Mem → Page → ℕ → Answer
 pageAnswer m p a = shownAs (p .src) (pageByte m p a)
 
--- The registers that can be read, each with its address; elsewhere the page. Rule 9: "$5130 reads 0 always."
+-- The registers that can be read, each with its address; elsewhere the page. Which they are is the Rust's (`prg_peek`). Module 9: "$5130 reads 0
+-- always."
 unfoldable pub registerRead : Regs → VSplit → Detector → List ℕ → List ℕ → ℕ → Answer → Answer
 registerRead g v d prg chr a page =
     pick (within 0x5113 0x5117 a) (Register (getD prg (a - 0x5113) 0))
@@ -53,7 +54,7 @@ registerRead g v d prg chr a page =
     (pick (eqb a 0x5206) (Register (g .multiplicand * g .multiplier / 256))
     page)))))))))))))))
 
--- Rule 9: "The $5204 peek clears nothing": a read does. "a CPU read of $FFFA or $FFFB" is a break.
+-- Module 9: "The $5204 peek clears nothing": a read does. "a CPU read of $FFFA or $FFFB" is a break.
 unfoldable pub irqRead : Detector → ℕ → Detector
 irqRead d a =
     pick (eqb a 0x5204) (statusRead d)

@@ -1,4 +1,4 @@
--- A CPU write. 01, "The board we take": "a CPU write does the register, then the page." Which writes map which pages: rules 4, 5 and 6, and in
+-- A CPU write. 01, "The board we take": "a CPU write does the register, then the page." Which writes map which pages: modules 4, 5 and 6, and in
 -- the Rust the arms of `write_register`.
 use Prim.Native.Nat.{ℕ, _-_, _/_}
 use mathlib.Core.Bool.{Bool, _&&_, _||_}
@@ -37,7 +37,7 @@ prgPagesAfter z g b pages a =
     (pick (eqb a 0x5104) (set pages 23 (exramPage (g .«exram_mode»)))
     pages)
 
--- The CHR table after a write. Rule 5: "A $5130 write maps with the present set and doesn't choose again."
+-- The CHR table after a write. Module 5: "A $5130 write maps with the present set and doesn't choose again."
 unfoldable pub chrPagesAfter : Lengths → Regs → List ℕ → Bool → List PageWord → ℕ → List PageWord
 chrPagesAfter z g b bg pages a =
     pick (mapsChr a) (chrMapped (z .chr) (z .«chr_writable») g b bg pages)
@@ -62,7 +62,7 @@ registerWritten s a v =
       «chr_pages» = chrPagesAfter (s .lengths) g (chrBanksAfter (s .«chr_banks») a v) (p .«bg_set») (s .«chr_pages») a;
     }
 
--- Rule 6: "In modes 0, 1 a CPU write to $5C00-$5FFF stores the value when rendering, else 0."
+-- Module 6: "In modes 0, 1 a CPU write to $5C00-$5FFF stores the value when rendering, else 0."
 unfoldable pub latched : ℕ → Bool → ℕ → ℕ → List ℕ → List ℕ
 latched mode rendering a v l = pick (within 0x5C00 0x5FFF a && leb mode 1) (set l (a - 0x5C00) (pick rendering v 0)) l
 
@@ -70,7 +70,7 @@ latched mode rendering a v l = pick (within 0x5C00 0x5FFF a && leb mode 1) (set 
 abbrev pub prgWordAt : List PageWord → ℕ → PageWord
 prgWordAt pages a = getD pages (a / 1024) (word 0)
 
--- The buffers after a write: rule 6's own store into ExRAM in modes 0 and 1, then the store through the page that is shown after the register write.
+-- The buffers after a write: module 6's own store into ExRAM in modes 0 and 1, then the store through the page that is shown after the register write.
 unfoldable pub cpuStored : State → Mem → ℕ → ℕ → Mem
 cpuStored s m a v =
     pageStored

@@ -26,7 +26,7 @@ use Rattle.histories.specs.Boards.Made.{call}
 use Rattle.histories.specs.Histories.{Load, Reached}
 
 -- Where a case looks: at what a CPU read answers from a register (letter `R`) or from a page (`M`), at a byte of ExRAM, at the number of the CHR
--- page that a place of the CHR table shows, or, with no board, at the address that rule 8 gives for a scroll and a column.
+-- page that a place of the CHR table shows, or, with no board, at the address that module 8 gives for a scroll and a column.
 pub data Sight : Type 0 where
   reads : (a : ℕ) → Sight
   pages : (a : ℕ) → Sight

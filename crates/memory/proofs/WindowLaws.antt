@@ -63,7 +63,7 @@ pub page-inside : (len size bank i : ℕ) → 1 ≤ len → len % 1024 ≡ 0 →
 unfolding pageStart
 page-inside len size bank i h e = omega (arith, mod-lt (windowStart len size bank + 1024 * i) {m = len} h)
 
--- 01, rule 2: "CHR windows are one page, number mod pages."
+-- 01, module 2: "CHR windows are one page, number mod pages."
 pub one-page-window : (len number : ℕ) → 1 ≤ len → len % 1024 ≡ 0 → pageStart len 1024 number 0 / 1024 ≡ number % (len / 1024)
 one-page-window len number h e =
     let m : banks len 1024 ≡ len / 1024 = omega arith in

@@ -13,5 +13,5 @@ pub record Pages : Type 0 where
   pub apart : (p q : Page) → named p ≡ true → named q ≡ true → wordOf p ≡ wordOf q → p ≡ q
   -- the page that a window shows lies whole in its buffer, for every window size
   pub inside : (len size bank i : ℕ) → 1 ≤ len → len % 1024 ≡ 0 → pageStart len size bank i / 1024 * 1024 + 1024 ≤ len
-  -- 01, rule 2: "CHR windows are one page, number mod pages."
+  -- 01, module 2: "CHR windows are one page, number mod pages."
   pub one-page : (len number : ℕ) → 1 ≤ len → len % 1024 ≡ 0 → pageStart len 1024 number 0 / 1024 ≡ number % (len / 1024)

@@ -1,4 +1,4 @@
--- Windows, over their size. 01, rule 2: "For a PRG window of 8,192: banks = max(1, length / 8,192); start = (bank mod banks) x 8,192; page i
+-- Windows, over their size. 01, module 2: "For a PRG window of 8,192: banks = max(1, length / 8,192); start = (bank mod banks) x 8,192; page i
 -- starts at (start + 1,024 i) mod length. CHR windows are one page, number mod pages. An empty buffer maps blank."
 use Prim.Native.Nat.{ℕ, _+_, _*_, _-_, _/_, _%_, max}
 use mathlib.Core.Bool.{Bool}

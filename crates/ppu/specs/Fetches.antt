@@ -30,7 +30,7 @@ ppuSeen g m p a =
       «bg_written» = p .«bg_written»;
     }
 
--- Rule 8: "Active when enabled, with nametable use, in frame; the region moves on name fetches to $2FFF only." Detector and tile count are those
+-- Module 8: "Active when enabled, with nametable use, in frame; the region moves on name fetches to $2FFF only." Detector and tile count are those
 -- after the run.
 unfoldable pub splitSeen : Regs → VSplit → Detector → ℕ → ℕ → VSplit
 splitSeen g v d tiles a =

@@ -1,4 +1,4 @@
--- What is served in the page's place. 01, "Fetches, runs, breaks": "Served order: split, attribute mode, fill, page." Rules 6 and 8.
+-- What is served in the page's place. 01, "Fetches, runs, breaks": "Served order: split, attribute mode, fill, page." Modules 6 and 8.
 use Prim.Native.Nat.{ℕ, _+_, _*_, _/_, _%_}
 use mathlib.Core.Bool.{Bool, false, _&&_, not}
 use mathlib.Core.List.{List}
@@ -21,21 +21,21 @@ use Rattle.split.specs.Places.{attributeAddress, attributeShift, attributeBits,
 use Rattle.split.specs.Region.{scrollOf}
 use Rattle.state.specs.declared.PpuStatus.{PpuStatus}
 
--- Rule 6: "Such direct CHR offsets are taken modulo the length; empty CHR answers 0."
+-- Module 6: "Such direct CHR offsets are taken modulo the length; empty CHR answers 0."
 unfoldable pub direct : List ℕ → ℕ → ℕ
 direct chr o = pick (eqb (length chr) 0) 0 (getD chr (o % length chr) 0)
 
--- Rule 6: "CHR at (hi << 10) OR ((that byte AND $3F) << 12) OR (address AND $FFF)"
+-- Module 6: "CHR at (hi << 10) OR ((that byte AND $3F) << 12) OR (address AND $FFF)"
 unfoldable pub exOffset : ℕ → ℕ → ℕ → ℕ
 exOffset hi byte a = (hi << 10) OR ((byte AND 0x3F) << 12) OR (a AND 0xFFF)
 
--- Rule 8: "With t the address, name fetches to $2FFF get ExRAM at t. Non-name fetches, $3000-$3EFF included, get the attribute".
+-- Module 8: "With t the address, name fetches to $2FFF get ExRAM at t. Non-name fetches, $3000-$3EFF included, get the attribute".
 unfoldable pub splitByte : VSplit → List ℕ → Bool → ℕ
 splitByte v exram name =
     pick name (getD exram (v .«tile_addr») 0)
     (mirroredByte (attributeBits (getD exram (attributeAddress (v .«tile_addr»)) 0) (attributeShift (v .«tile_addr»))))
 
--- Rule 6: "its tile, or at an attribute address its attribute mirrored"
+-- Module 6: "its tile, or at an attribute address its attribute mirrored"
 abbrev pub fillByte : Regs → Bool → ℕ
 fillByte g attribute = pick attribute (mirroredByte (g .«fill_attr»)) (g .«fill_tile»)
 
@@ -43,7 +43,7 @@ fillByte g attribute = pick attribute (mirroredByte (g .«fill_attr»)) (g .«fi
 abbrev pub splitServes : Regs → VSplit → Bool → Bool
 splitServes g v framed = splitActive v (nametableUse g) framed && v .«in_region»
 
--- At $2000-$3EFF. Rule 6: "In attribute mode, tile count outside 32-39, an attribute address answers the top two bits of ExRAM at the tile cache,
+-- At $2000-$3EFF. Module 6: "In attribute mode, tile count outside 32-39, an attribute address answers the top two bits of ExRAM at the tile cache,
 -- mirrored"; "Fill .. is served with that use only". Selector 3 of $5105 is Fill.
 unfoldable pub countedServed : Regs → VSplit → Bool → PpuStatus → List ℕ → ℕ → Answer → Answer
 countedServed g v framed p exram a page =
@@ -52,7 +52,7 @@ countedServed g v framed p exram a page =
     (pick (nametableUse g && eqb (selector (g .nametables) (a / 1024)) 3) (Served (fillByte g (attributeAt a)))
     page))
 
--- At $0000-$1FFF. Rule 8: "Pattern fetches get CHR at ..". Rule 6: "a pattern fetch answers CHR at ..", in attribute mode, outside 32-39.
+-- At $0000-$1FFF. Module 8: "Pattern fetches get CHR at ..". Module 6: "a pattern fetch answers CHR at ..", in attribute mode, outside 32-39.
 unfoldable pub patternServed : Regs → VSplit → Detector → PpuStatus → List ℕ → List ℕ → ℕ → Answer → Answer
 patternServed g v d p exram chr a page =
     pick (splitServes g v (d .«in_frame»))
@@ -60,6 +60,6 @@ patternServed g v d p exram chr a page =
     (pick (attributeUse g && not (spriteFetch (p .«tile_number»))) (Served (direct chr (exOffset (g .«chr_hi») (getD exram (p .«tile_cache») 0) a)))
     page)
 
--- Rule 5: "The sprite peek answers .. the CHR byte the sprite set would map there."
+-- Module 5: "The sprite peek answers .. the CHR byte the sprite set would map there."
 unfoldable pub spriteByte : Regs → List ℕ → List ℕ → ℕ → ℕ
 spriteByte g b chr a = direct chr (chrNumber g b false (a / 1024 % 8) * 1024 + a % 1024)

@@ -20,12 +20,13 @@ attributeUse g = eqb (g .«exram_mode») 1
 abbrev pub nametableUse : Regs → Bool
 nametableUse g = g .«exram_chosen» && leb (g .«exram_mode») 1
 
--- Rule 4: "RAM pages are writable only with $5102 = 2 and $5103 = 1."
+-- Module 4: "RAM pages are writable only with $5102 = 2 and $5103 = 1."
 abbrev pub unlocked : Regs → Bool
 unlocked g = eqb (g .«protect_a») 2 && eqb (g .«protect_b») 1
 
 -- The registers after a CPU write, each with the address that writes it. "ExRAM mode 0-3", "$5105 gives four selectors of two bits",
--- rule 9: "In attribute mode any $5101 write selects 4k." (CHR mode 1)
+-- module 9: "In attribute mode any $5101 write selects 4k." (CHR mode 1). That a mode, a protect byte and the fill attribute keep two bits is the
+-- Rust's (`write_register`); 01 gives their ranges.
 unfoldable pub written : Regs → ℕ → ℕ → Regs
 written g a v =
     record {

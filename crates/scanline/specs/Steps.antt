@@ -9,7 +9,7 @@ use Rattle.memory.specs.Words.{pick}
 use Rattle.scanline.specs.declared.Detector.{Detector}
 use Rattle.scanline.specs.Clock.{recordOf, withRecord, tick}
 
--- 01, rule 10: load gives "all else 0, off, none"
+-- 01, module 10: load gives "all else 0, off, none"
 abbrev pub detectorAtLoad : Detector
 detectorAtLoad = record {
   «prev_some» = false;

@@ -5,19 +5,19 @@ use lib.Dec.{leb, ltb}
 use Rattle.memory.specs.Words.{pick}
 use Rattle.scanline.specs.Fetches.{nameAt}
 
--- The four looks. 01, rule 5: "tile count 32-39"; rule 6: "tile count outside 32-39".
+-- The four looks. 01, module 5: "tile count 32-39"; module 6: "tile count outside 32-39".
 unfoldable pub spriteFetch : ℕ → Bool
 spriteFetch t = leb 32 t && leb t 39
 
--- 01, rule 8: "Column = (tile + 2) mod 42."
+-- 01, module 8: "Column = (tile + 2) mod 42."
 unfoldable pub columnOf : ℕ → ℕ
 columnOf t = (t + 2) % 42
 
--- 01, rule 8: "+ 1 if tile is 40 or more"
+-- 01, module 8: "+ 1 if tile is 40 or more"
 unfoldable pub isPrefetched : ℕ → Bool
 isPrefetched t = leb 40 t
 
--- 01, rule 8: "with tile count under 42"
+-- 01, module 8: "with tile count under 42"
 unfoldable pub isFirst : ℕ → Bool
 isFirst t = ltb t 42
 

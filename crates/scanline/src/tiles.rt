@@ -1,5 +1,5 @@
 // The tile count: name fetches so far in a line, and the four ways in which the board looks at it. Beside it, which fetches count.
-// 01, rules 5, 6 and 8, and "Fetches, runs, breaks"; in the Rust, `tile_number`. Nothing outside this file looks at the count's digits.
+// 01, modules 5, 6 and 8, and "Fetches, runs, breaks"; in the Rust, `tile_number`. Nothing outside this file looks at the count's digits.
 ghost use mathlib.Core.Path.{_≡_};
 ghost use mathlib.Core.Bool.{true};
 ghost use Rattle.scanline.specs.Fetches.{countedAt, attributeAt, nameAt};

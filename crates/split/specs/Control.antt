@@ -5,7 +5,7 @@ use lib.Dec.{leb, ltb}
 use Rattle.split.specs.declared.VSplit.{VSplit}
 use Rattle.memory.specs.Bits.{bitSet}
 
--- 01, rule 10: "all else 0, off, none or sprite"; the Rust's side after load is the left one.
+-- 01, module 10: "all else 0, off, none or sprite"; the Rust's side after load is the left one.
 abbrev pub afterLoad : VSplit
 afterLoad = record { mode = 0; enabled = false; right = false; tile = 0; scroll = 0; bank = 0; «in_region» = false; «tile_addr» = 0 }
 
@@ -24,7 +24,7 @@ abbrev pub withBank : VSplit → ℕ → VSplit
 withBank v n =
     record { mode = v .mode; enabled = v .enabled; right = v .right; tile = v .tile; scroll = v .scroll; bank = n; «in_region» = v .«in_region»; «tile_addr» = v .«tile_addr» }
 
--- 01, rule 8: "Active when enabled, with nametable use, in frame".
+-- 01, module 8: "Active when enabled, with nametable use, in frame".
 abbrev pub splitActive : VSplit → Bool → Bool → Bool
 splitActive v nametable frame = v .enabled && (nametable && frame)
 

@@ -1,4 +1,4 @@
--- Worked cases of rule 8, in one list: pinned by the contract of `examples`, and computed.
+-- Worked cases of module 8, in one list: pinned by the contract of `examples`, and computed.
 use Prim.Native.Nat.{ℕ}
 use mathlib.Core.Bool.{Bool, true, false}
 use mathlib.Core.List.{List, [], _∷_}

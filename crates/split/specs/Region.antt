@@ -7,21 +7,21 @@ use Rattle.memory.specs.Words.{pick, asBit}
 use Rattle.split.specs.declared.VSplit.{VSplit}
 use Rattle.memory.specs.Bits.{_AND_, _OR_, _<<_}
 
--- 01, rule 8: "Scroll = (line, + 1 if tile is 40 or more, + $5201) mod 240."
+-- 01, module 8: "Scroll = (line, + 1 if tile is 40 or more, + $5201) mod 240."
 abbrev pub scrollOf : ℕ → Bool → ℕ → ℕ
 scrollOf line prefetched y = (line + asBit prefetched + y) % 240
 
--- 01, rule 8: "Column 0 sets the region to "left side"."
+-- 01, module 8: "Column 0 sets the region to "left side"."
 unfoldable pub sideAt : VSplit → ℕ → Bool
 sideAt v column = pick (eqb column 0) (not (v .right)) (v .«in_region»)
 
--- 01, rule 8: "Column equal to split tile with tile count under 42 flips it; otherwise column above 32 clears it."
+-- 01, module 8: "Column equal to split tile with tile count under 42 flips it; otherwise column above 32 clears it."
 unfoldable pub regionAt : VSplit → ℕ → Bool → Bool
 regionAt v column first =
     pick (eqb column (v .tile) && first) (not (sideAt v column))
     (pick (ltb 32 column) false (sideAt v column))
 
--- 01, rule 8: "In the region the address is ((scroll AND $F8) << 2) OR column."
+-- 01, module 8: "In the region the address is ((scroll AND $F8) << 2) OR column."
 unfoldable pub splitAddress : ℕ → ℕ → ℕ
 splitAddress scroll column = ((scroll AND 0xF8) << 2) OR column
 
