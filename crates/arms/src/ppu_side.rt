@@ -6,7 +6,7 @@ ghost use Rattle.memory.specs.Bytes.{memOf};
 ghost use Rattle.memory.specs.Words.{pick, pageOf};
 ghost use Rattle.cpu.specs.Reads.{pageAnswer};
 ghost use Rattle.scanline.specs.Fetches.{countedAt};
-ghost use Rattle.scanline.specs.Ranges.{rangesOk, counterRefused};
+ghost use Rattle.scanline.specs.Ranges.{detectorOk, counterRefused};
 ghost use Rattle.scanline.specs.Steps.{seenAt};
 ghost use Rattle.scanline.specs.Tiles.{tilesOk};
 ghost use Rattle.ppu.specs.Fetches.{ppuSeen, splitSeen};
@@ -27,7 +27,7 @@ pub struct Counted {
 }
 
 pub fn count_fetch(regs: Regs, irq: Detector, ppu: PpuStatus, vsplit: VSplit, addr: u16) -> Counted
-    requires { ⌜ (rangesOk irq ≡ true) × ((tilesOk (ppu .«tile_number») ≡ true) × ((countedAt addr ≡ true) × (counterRefused irq (ppu .«tile_number») addr ≡ false))) ⌝ }
+    requires { ⌜ (detectorOk irq ≡ true) × ((tilesOk (ppu .«tile_number») ≡ true) × ((countedAt addr ≡ true) × (counterRefused irq (ppu .«tile_number») addr ≡ false))) ⌝ }
     ensures { λ r. ⌜ (r .irq ≡ seenAt irq addr) × ((r .ppu ≡ ppuSeen regs (seenAt irq addr .«match_count») ppu addr)
         × (r .vsplit ≡ splitSeen regs vsplit (seenAt irq addr) (ppuSeen regs (seenAt irq addr .«match_count») ppu addr .«tile_number») addr)) ⌝ }
 {

@@ -15,11 +15,11 @@ use Rattle.registers.specs.Registers.{unlocked}
 use Rattle.banks.specs.Placed.{placed}
 
 -- "16k pairs clear bit 0 for the first window and set it for the second."
-abbrev pub first : ℕ → ℕ
-first v = v / 2 * 2
+abbrev pub pairFirst : ℕ → ℕ
+pairFirst v = v / 2 * 2
 
-abbrev pub second : ℕ → ℕ
-second v = v / 2 * 2 + 1
+abbrev pub pairSecond : ℕ → ℕ
+pairSecond v = v / 2 * 2 + 1
 
 -- "32k clears two low bits of $5117": the value of the i-th of its four windows.
 abbrev pub quarter : ℕ → ℕ → ℕ
@@ -36,9 +36,9 @@ prgValues mode b =
     ∷ pick (eqb mode 0)
     (rom (getD b 4 0) / 4 * 4 ∷ quarter (rom (getD b 4 0)) 1 ∷ quarter (rom (getD b 4 0)) 2 ∷ quarter (rom (getD b 4 0)) 3 ∷ [])
     (pick (eqb mode 1)
-    (first (getD b 2 0) ∷ second (getD b 2 0) ∷ first (rom (getD b 4 0)) ∷ second (rom (getD b 4 0)) ∷ [])
+    (pairFirst (getD b 2 0) ∷ pairSecond (getD b 2 0) ∷ pairFirst (rom (getD b 4 0)) ∷ pairSecond (rom (getD b 4 0)) ∷ [])
     (pick (eqb mode 2)
-    (first (getD b 2 0) ∷ second (getD b 2 0) ∷ getD b 3 0 ∷ rom (getD b 4 0) ∷ [])
+    (pairFirst (getD b 2 0) ∷ pairSecond (getD b 2 0) ∷ getD b 3 0 ∷ rom (getD b 4 0) ∷ [])
     (getD b 1 0 ∷ getD b 2 0 ∷ getD b 3 0 ∷ rom (getD b 4 0) ∷ [])))
 
 -- "clear means RAM with three" bits

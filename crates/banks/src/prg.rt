@@ -1,14 +1,14 @@
 // PRG banks: the five windows from $6000 on, and ExRAM's page at $5C00.
 ghost use mathlib.Core.Path.{_≡_};
 ghost use Prim.Native.Nat.{_%_, _<_};
-ghost use Rattle.banks.specs.Prg.{first, rom, prgValues, prgShown, prgMapped, exramPage};
+ghost use Rattle.banks.specs.Prg.{pairFirst, rom, prgValues, prgShown, prgMapped, exramPage};
 use memory::PageWord;
 use memory::Src;
 use registers::Regs;
 
 // Bit 0 cleared.
 fn first_of(value: u8) -> u8
-    ensures { λ r. ⌜ r ≡ first value ⌝ }
+    ensures { λ r. ⌜ r ≡ pairFirst value ⌝ }
 {
     value / 2 * 2
 }

@@ -11,11 +11,11 @@ use Rattle.answers.specs.declared.Refusal.{Refusal}
 use Rattle.answers.specs.declared.Refusal.the-variants.{Prg, Chr, Ram}
 use Rattle.registers.specs.declared.Mirroring.{Mirroring}
 use Rattle.registers.specs.declared.Mirroring.the-variants.{Horizontal}
-use Rattle.registers.specs.Registers.{loaded as regsLoaded}
+use Rattle.registers.specs.Registers.{regsAtLoad as regsLoaded}
 use Rattle.banks.specs.Chr.{chrMapped}
 use Rattle.banks.specs.Names.{namesMapped}
 use Rattle.banks.specs.Prg.{prgMapped}
-use Rattle.scanline.specs.Steps.{loaded as detectorLoaded}
+use Rattle.scanline.specs.Steps.{detectorAtLoad as detectorLoaded}
 use Rattle.split.specs.Control.{afterLoad}
 use Rattle.state.specs.declared.Lengths.{Lengths}
 use Rattle.state.specs.declared.PpuStatus.{PpuStatus}

@@ -13,7 +13,7 @@ use Rattle.board.specs.Loads.{loadCall, loadedState}
 use Rattle.trace.specs.declared.Call.the-variants.{Clock, CpuRead, CpuWrite, PpuRegister, PpuFetch, Reset, PpuWrite}
 use Rattle.lines.specs.Told.{History}
 use Rattle.lines.specs.Machine.{step, Watched, atLoad, tilesBy, watched}
-use Rattle.lines.specs.Promise.{historyOf, Reached as Seen}
+use Rattle.lines.specs.Promise.{historyOf, LedTo as Seen}
 use Rattle.lines.specs.Promise.Played.{at-load, taken}
 use Rattle.promises.proofs.Promised.{gate-stays-open}
 use Rattle.histories.specs.Boards.{Board, Made, says, leaves, number}

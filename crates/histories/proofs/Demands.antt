@@ -7,7 +7,7 @@ use Rattle.memory.specs.Bytes.{Mem}
 use Rattle.memory.specs.Words.{pick}
 use Rattle.answers.specs.declared.Answer.the-variants.{Register}
 use Rattle.scanline.specs.declared.Detector.{Detector}
-use Rattle.scanline.specs.Steps.{loaded, statusOf, interruptUp}
+use Rattle.scanline.specs.Steps.{detectorAtLoad, statusOf, interruptUp}
 use Rattle.state.specs.declared.gate.Gate.the-variants.{Open}
 use Rattle.state.specs.declared.State.{State}
 use Rattle.state.specs.Gate.{gateMem}
@@ -32,7 +32,7 @@ use Rattle.histories.specs.Interrupts.{BoardDemand3, Asked}
 use Rattle.histories.proofs.Along.{open-along, load-watched}
 use Rattle.histories.proofs.Following.{follows}
 
-starts : (l : Load) → view (first l) ≡ loaded
+starts : (l : Load) → view (first l) ≡ detectorAtLoad
 starts l = ap (λ (w : Watched). w .detector) (load-watched l)
 
 pub board-demand-3 : BoardDemand3

@@ -24,7 +24,7 @@ use Rattle.trace.specs.declared.Call.{Call}
 use Rattle.trace.specs.declared.Call.the-variants.{Clock, CpuRead, CpuWrite, PpuRegister, PpuFetch, Reset, PpuWrite}
 use Rattle.lines.specs.Events.{Event}
 use Rattle.lines.specs.Events.Event.{cpuRead, cpuWrite, ppuWrite, other}
-use Rattle.lines.specs.Machine.{step, Watched, refused, tilesBy, Taken}
+use Rattle.lines.specs.Machine.{step, Watched, eventRefused, tilesBy, Taken}
 use Rattle.histories.specs.Boards.{Board, Made, says, leaves, number}
 use Rattle.histories.specs.Boards.Made.{call, peek, ppu-peek, sprite-peek, mirroring-asked, interrupt-asked, cpu-page, ppu-page}
 use Rattle.histories.specs.Histories.{Takes, view, event}
@@ -78,8 +78,8 @@ steps (PpuFetch a) s m = split (countedAt (a .0)) (λ t. rw t) (λ t. rw t (spli
 steps Reset s m = refl
 steps (PpuWrite a v) s m = refl
 
-allowed : (w : Watched) (c : Call) → refusal w (call c) ≡ 0 → refused w (event (call c)) ≡ false
-unfolding refusal refused
+allowed : (w : Watched) (c : Call) → refusal w (call c) ≡ 0 → eventRefused w (event (call c)) ≡ false
+unfolding refusal eventRefused
 allowed w Clock e = refl
 allowed w (CpuRead a) e = refl
 allowed w (CpuWrite a v) e = refl
@@ -90,7 +90,7 @@ allowed w (PpuWrite a v) e = refl
 
 -- looking changes nothing
 looked : (b : Board) → Taken (watch b) other (watch b)
-unfolding refused step tilesBy
+unfolding eventRefused step tilesBy
 looked b = record { allowed = refl; moved = refl }
 
 pub taken-over : (b : Board) (c : Made) → number (says b c) ≡ 0 → Taken (watch b) (event c) (watch (leaves b c))

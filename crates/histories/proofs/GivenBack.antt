@@ -27,7 +27,7 @@ use Rattle.promises.proofs.Promised.{who-is-refused}
 use Rattle.histories.specs.Boards.{Board, Made, says, leaves, number, numberIn}
 use Rattle.histories.specs.Boards.Made.{call, peek, ppu-peek, sprite-peek, mirroring-asked, interrupt-asked, cpu-page, ppu-page}
 use Rattle.histories.specs.Accepted.{watch, refusal}
-use Rattle.histories.specs.Refusals.{lentAsRecorded, over, alone, given, Refusals}
+use Rattle.histories.specs.Refusals.{lentAsRecorded, overBuffers, alone, given, Refusals}
 use Rattle.histories.proofs.Behind.{gate-case, exactly, nothing, told, with-number}
 
 abbrev Opened : Board → Type 0
@@ -38,7 +38,7 @@ abbrev gated : Gate → ℕ → ℕ
 gated Open n = n
 gated (Shut r) n = numberOf r
 
-by-gate : (b : Board) (n : ℕ) → gated (gateMem (b .state) (b .mem)) n ≡ over b n
+by-gate : (b : Board) (n : ℕ) → gated (gateMem (b .state) (b .mem)) n ≡ overBuffers b n
 unfolding gateOf
 by-gate b n =
     split (b .state .lengths .loaded)
@@ -49,7 +49,7 @@ by-gate b n =
     (λ t. rw t)
 
 -- Calls over the buffers: what the gate says, or what is said behind it.
-over-gate : (b : Board) (c : Made) (own : ℕ) → (Opened b → number (says b c) ≡ own) → ((r : Refusal) → gateMem (b .state) (b .mem) ≡ Shut r → number (says b c) ≡ numberOf r) → number (says b c) ≡ over b own
+over-gate : (b : Board) (c : Made) (own : ℕ) → (Opened b → number (says b c) ≡ own) → ((r : Refusal) → gateMem (b .state) (b .mem) ≡ Shut r → number (says b c) ≡ numberOf r) → number (says b c) ≡ overBuffers b own
 over-gate b c own f k =
     gate-case (gateMem (b .state) (b .mem))
     (λ h. f h ∙ ap (λ (g : Gate). gated g own) (sym h) ∙ by-gate b own)

@@ -2,15 +2,15 @@
 use mathlib.Core.Path.{refl}
 use Rattle.memory.specs.Bytes.{offsetOf, byteAt, storedAt, pageStored}
 use Rattle.memory.specs.Tables.{all, prgShowsAs, chrShowsAs}
-use Rattle.memory.specs.Words.{numberOf, pageOf}
+use Rattle.memory.specs.Words.{wordNumber, pageOf}
 use Rattle.memory.specs.Windows.{pageStart, windowPage}
-use Rattle.registers.specs.Registers.{written, rangesOk as regsOk}
+use Rattle.registers.specs.Registers.{written, regsOk}
 use Rattle.banks.specs.Placed.{placed}
 use Rattle.banks.specs.Prg.{prgValues, prgShown, windowsMapped, exramPage}
 use Rattle.banks.specs.Chr.{windowPages, chrNumber, chrMapped}
 use Rattle.banks.specs.Names.{selector, namePage, namesMapped}
 use Rattle.scanline.specs.Tiles.{nextTile, tileRefused, tilesOk, spriteFetch, isFirst, isPrefetched, columnOf}
-use Rattle.scanline.specs.Ranges.{lineRefused, counterRefused, rangesOk}
+use Rattle.scanline.specs.Ranges.{lineRefused, counterRefused, detectorOk}
 use Rattle.scanline.specs.Clock.{tick}
 use Rattle.scanline.specs.Steps.{again, matchesAfter, isLine, meets, seenAt}
 use Rattle.state.specs.Gate.{sameLengths, gateOf}
@@ -27,14 +27,14 @@ use Rattle.board.specs.CpuSide.{cpuRead, cpuWrite}
 use Rattle.board.specs.Whole.{clockCall, statusTold, detectorTold, ppuRegisterCall}
 use Rattle.board_ppu.specs.Fetch.{countedCall, ppuFetch}
 use Rattle.board_ppu.specs.Peeks.{chrAnswer}
-use Rattle.trace.specs.Numbers.{over, numeral, within}
+use Rattle.trace.specs.Numbers.{grouped, numeral, limited}
 use Rattle.trace.specs.Records.{numbered, filled, recordAt}
 use Rattle.logs.specs.Logs.{logged}
 use Rattle.player.specs.Replay.{playedFrom, replayed}
 use Rattle.histories.specs.WorkedReplay.{pages, WorkedReplay}
 
 pub worked-replay : WorkedReplay
-unfolding nextTile tileRefused tilesOk spriteFetch isFirst isPrefetched columnOf lineRefused counterRefused rangesOk tick again matchesAfter isLine meets seenAt offsetOf byteAt storedAt pageStored all prgShowsAs chrShowsAs numberOf pageOf pageStart windowPage written regsOk placed prgValues prgShown windowsMapped exramPage windowPages chrNumber chrMapped selector namePage namesMapped sameLengths gateOf lengthsOk inRange chosen ppuAfter splitAfter irqAfter prgBanksAfter chrBanksAfter pageAnswer registerRead irqRead cpuAnswer prgPagesAfter chrPagesAfter registerWritten latched cpuStored cacheAfter ppuSeen splitSeen countedServed loadedState loadCall cpuRead cpuWrite clockCall statusTold detectorTold ppuRegisterCall countedCall ppuFetch chrAnswer pages over numeral within numbered filled recordAt logged playedFrom replayed
+unfolding nextTile tileRefused tilesOk spriteFetch isFirst isPrefetched columnOf lineRefused counterRefused detectorOk tick again matchesAfter isLine meets seenAt offsetOf byteAt storedAt pageStored all prgShowsAs chrShowsAs wordNumber pageOf pageStart windowPage written regsOk placed prgValues prgShown windowsMapped exramPage windowPages chrNumber chrMapped selector namePage namesMapped sameLengths gateOf lengthsOk inRange chosen ppuAfter splitAfter irqAfter prgBanksAfter chrBanksAfter pageAnswer registerRead irqRead cpuAnswer prgPagesAfter chrPagesAfter registerWritten latched cpuStored cacheAfter ppuSeen splitSeen countedServed loadedState loadCall cpuRead cpuWrite clockCall statusTold detectorTold ppuRegisterCall countedCall ppuFetch chrAnswer pages grouped numeral limited numbered filled recordAt logged playedFrom replayed
 worked-replay = record {
   loads = refl;
   ending = refl;

@@ -9,7 +9,7 @@ use Rattle.scanline.specs.Ranges.{lineRefused, counterRefused}
 use Rattle.scanline.specs.Clock.{tick}
 use Rattle.scanline.specs.Steps.{again, matchesAfter, isLine, meets, seenAt}
 use Rattle.board.specs.Loads.{loadCall}
-use Rattle.lines.specs.Machine.{step, refused, tilesBy, watched}
+use Rattle.lines.specs.Machine.{step, eventRefused, tilesBy, watched}
 use Rattle.lines.specs.Promise.{historyOf}
 use Rattle.lines.proofs.Worked.{worked}
 use Rattle.histories.specs.Histories.{Load}
@@ -19,7 +19,7 @@ use Rattle.histories.proofs.Along.{are-reached}
 use Rattle.histories.proofs.Demands.{asked}
 
 take-them : acceptable (last ∷ (between ++ before)) ≡ true
-unfolding acceptable refusal historyOf nextTile tileRefused lineRefused counterRefused step refused tilesBy watched tick again matchesAfter isLine meets seenAt
+unfolding acceptable refusal historyOf nextTile tileRefused lineRefused counterRefused step eventRefused tilesBy watched tick again matchesAfter isLine meets seenAt
 take-them = refl
 
 take-fewer : acceptable (between ++ before) ≡ true

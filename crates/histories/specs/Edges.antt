@@ -102,34 +102,34 @@ fetch a = call (PpuFetch (ppu a))
 abbrev pub clock : Made
 clock = call Clock
 
-abbrev pub line : List Made
-line = fetch 0x2000 ∷ fetch 0x2000 ∷ fetch 0x2000 ∷ []
+abbrev pub threeFetches : List Made
+threeFetches = fetch 0x2000 ∷ fetch 0x2000 ∷ fetch 0x2000 ∷ []
 
 -- A case over a cartridge with PRG-ROM 8,192, CHR 8,192 and no PRG-RAM; over one with another PRG-ROM.
-abbrev pub over : ℕ → List Made → Sight → ℕ → Case
-over n cs s v = record { prg = n; chr = 8192; ram = 0; calls = cs; sight = s; value = v }
+abbrev pub overPrg : ℕ → List Made → Sight → ℕ → Case
+overPrg n cs s v = record { prg = n; chr = 8192; ram = 0; calls = cs; sight = s; value = v }
 
 abbrev pub case : List Made → Sight → ℕ → Case
-case cs s v = over 8192 cs s v
+case cs s v = overPrg 8192 cs s v
 
 abbrev pub edges : List Case
 edges =
     -- "PRG-ROM 262,144: $5117 reads $9F; after load $5205 reads 1, $5206 reads $FE."
-    over 262144 [] (reads 0x5117) 0x9F
-    ∷ over 262144 [] (reads 0x5205) 1
-    ∷ over 262144 [] (reads 0x5206) 0xFE
+    overPrg 262144 [] (reads 0x5117) 0x9F
+    ∷ overPrg 262144 [] (reads 0x5205) 1
+    ∷ overPrg 262144 [] (reads 0x5206) 0xFE
     -- "$5104 = 1, $5101 = 3: $5101 reads 1."
     ∷ case (write 0x5104 1 ∷ write 0x5101 3 ∷ []) (reads 0x5101) 1
     -- "three fetches of $2000: $5204 reads 64. Four: still 64, even with $5203 = 1."
-    ∷ case line (reads 0x5204) 64
-    ∷ case (line ++ (fetch 0x2000 ∷ [])) (reads 0x5204) 64
-    ∷ case (write 0x5203 1 ∷ (line ++ (fetch 0x2000 ∷ []))) (reads 0x5204) 64
+    ∷ case threeFetches (reads 0x5204) 64
+    ∷ case (threeFetches ++ (fetch 0x2000 ∷ [])) (reads 0x5204) 64
+    ∷ case (write 0x5203 1 ∷ (threeFetches ++ (fetch 0x2000 ∷ []))) (reads 0x5204) 64
     -- "$5203 = 1, $2000 x3, $2001, $2000 x3: $5204 reads 192, then 64."
-    ∷ case (write 0x5203 1 ∷ (line ++ (fetch 0x2001 ∷ line))) (reads 0x5204) 192
-    ∷ case (write 0x5203 1 ∷ (line ++ (fetch 0x2001 ∷ (line ++ (read 0x5204 ∷ []))))) (reads 0x5204) 64
+    ∷ case (write 0x5203 1 ∷ (threeFetches ++ (fetch 0x2001 ∷ threeFetches))) (reads 0x5204) 192
+    ∷ case (write 0x5203 1 ∷ (threeFetches ++ (fetch 0x2001 ∷ (threeFetches ++ (read 0x5204 ∷ []))))) (reads 0x5204) 64
     -- "after a line, three clocks leave 64; the fourth gives 0."
-    ∷ case (line ++ (clock ∷ clock ∷ clock ∷ [])) (reads 0x5204) 64
-    ∷ case (line ++ (clock ∷ clock ∷ clock ∷ clock ∷ [])) (reads 0x5204) 0
+    ∷ case (threeFetches ++ (clock ∷ clock ∷ clock ∷ [])) (reads 0x5204) 64
+    ∷ case (threeFetches ++ (clock ∷ clock ∷ clock ∷ clock ∷ [])) (reads 0x5204) 0
     -- "mode 0, not rendering, $5C05 = 9 stores 0; after $2001 = 8 stores 9."
     ∷ case (write 0x5104 0 ∷ write 0x5C05 9 ∷ []) (holds 5) 0
     ∷ case (write 0x5104 0 ∷ write 0x5C05 9 ∷ tell 0x2001 8 ∷ write 0x5C05 9 ∷ []) (holds 5) 9
@@ -155,10 +155,10 @@ shutOut =
     -- idles after its first call: 7 x 9; a second page; a second line
     ∷ case (write 0x5205 7 ∷ write 0x5206 9 ∷ []) (reads 0x5205) 63
     ∷ case (write 0x5120 1 ∷ write 0x5121 5 ∷ []) (shows 1) 5
-    ∷ case (write 0x5203 1 ∷ (line ++ (fetch 0x2001 ∷ line))) (reads 0x5204) 192
+    ∷ case (write 0x5203 1 ∷ (threeFetches ++ (fetch 0x2001 ∷ threeFetches))) (reads 0x5204) 192
     -- an invented line number: $5203 = 2 is met by the third line, not by the second
-    ∷ case (write 0x5203 2 ∷ (line ++ (fetch 0x2001 ∷ line))) (reads 0x5204) 64
-    ∷ case (write 0x5203 2 ∷ (line ++ (fetch 0x2001 ∷ (line ++ (fetch 0x2001 ∷ line))))) (reads 0x5204) 192
+    ∷ case (write 0x5203 2 ∷ (threeFetches ++ (fetch 0x2001 ∷ threeFetches))) (reads 0x5204) 64
+    ∷ case (write 0x5203 2 ∷ (threeFetches ++ (fetch 0x2001 ∷ (threeFetches ++ (fetch 0x2001 ∷ threeFetches))))) (reads 0x5204) 192
     ∷ []
 
 -- Every case of a list comes to its value.

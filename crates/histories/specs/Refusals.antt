@@ -19,8 +19,8 @@ lentAsRecorded b =
     sameLengths (b .state .lengths) (length (b .mem .prg)) (length (b .mem .chr)) (length (b .mem .ram)) (length (b .mem .ciram)) (length (b .mem .exram))
 
 -- A call over the buffers: 4 and 5, "but a state not loaded gives 5 before 4", and then its own refusal.
-abbrev pub over : Board → ℕ → ℕ
-over b own = pick (not (b .state .lengths .loaded)) 5 (pick (not (lentAsRecorded b)) 4 (pick (not (inRange (b .state))) 5 own))
+abbrev pub overBuffers : Board → ℕ → ℕ
+overBuffers b own = pick (not (b .state .lengths .loaded)) 5 (pick (not (lentAsRecorded b)) 4 (pick (not (inRange (b .state))) 5 own))
 
 -- A call on the state alone: 5, "the state handed in breaks a range below".
 abbrev pub alone : Board → ℕ
@@ -28,15 +28,15 @@ alone b = pick (not (inRange (b .state))) 5 0
 
 unfoldable pub given : Board → Made → ℕ
 given b (call Clock) = alone b
-given b (call (CpuRead a)) = over b (refusal (watch b) (call (CpuRead a)))
-given b (call (CpuWrite a v)) = over b (refusal (watch b) (call (CpuWrite a v)))
+given b (call (CpuRead a)) = overBuffers b (refusal (watch b) (call (CpuRead a)))
+given b (call (CpuWrite a v)) = overBuffers b (refusal (watch b) (call (CpuWrite a v)))
 given b (call (PpuRegister a v)) = alone b
-given b (call (PpuFetch a)) = over b (refusal (watch b) (call (PpuFetch a)))
+given b (call (PpuFetch a)) = overBuffers b (refusal (watch b) (call (PpuFetch a)))
 given b (call Reset) = alone b
-given b (call (PpuWrite a v)) = over b 0
-given b (peek a) = over b (refusal (watch b) (peek a))
-given b (ppu-peek a) = over b 0
-given b (sprite-peek a) = over b 0
+given b (call (PpuWrite a v)) = overBuffers b 0
+given b (peek a) = overBuffers b (refusal (watch b) (peek a))
+given b (ppu-peek a) = overBuffers b 0
+given b (sprite-peek a) = overBuffers b 0
 given b mirroring-asked = alone b
 given b interrupt-asked = alone b
 -- "causes 4 and 5, give the empty part without a number"

@@ -15,7 +15,7 @@ use Rattle.registers.specs.declared.Regs.{Regs}
 use Rattle.registers.specs.Registers.{nametableUse}
 use Rattle.scanline.specs.declared.Detector.{Detector}
 use Rattle.scanline.specs.Fetches.{countedAt, nameAt}
-use Rattle.scanline.specs.Ranges.{rangesOk, counterRefused}
+use Rattle.scanline.specs.Ranges.{detectorOk, counterRefused}
 use Rattle.scanline.specs.Steps.{seenAt}
 use Rattle.scanline.specs.Tiles.{tilesOk, columnOf, isPrefetched, isFirst}
 use Rattle.split.specs.declared.VSplit.{VSplit}
@@ -57,7 +57,7 @@ pub not-refused : (s : State) (a : ℕ) (b c : Bool) (d : Detector) (p : PpuStat
 not-refused s a b c d p ed ep eb tb = rw (← ed, ← ep) (sym eb ∙ tb)
 
 -- What counting asks of the groups.
-pub detector-ranged : (s : State) (m : Mem) (d : Detector) → gateMem s m ≡ Open → d ≡ s .irq → rangesOk d ≡ true
+pub detector-ranged : (s : State) (m : Mem) (d : Detector) → gateMem s m ≡ Open → d ≡ s .irq → detectorOk d ≡ true
 detector-ranged s m d h ed = rw ed (ranged s (in-range-of s m h) .detector)
 
 pub tiles-ranged : (s : State) (m : Mem) (p : PpuStatus) → gateMem s m ≡ Open → p ≡ s .ppu → tilesOk (p .«tile_number») ≡ true

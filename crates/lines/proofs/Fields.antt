@@ -5,12 +5,13 @@ use mathlib.Core.Path.{_≡_, refl}
 use mathlib.Core.Bool.{Bool, true, false, not, _&&_, _||_}
 use borrow.Author.Tests.{eqb-true}
 use lib.Dec.{leb, eqb}
+use Rattle.memory.specs.Bits.{bitSet}
 use Rattle.memory.specs.Words.{pick}
 use Rattle.memory.proofs.Tests.{split}
 use Rattle.scanline.specs.declared.Detector.{Detector}
 use Rattle.scanline.specs.Fetches.{countedAt}
 use Rattle.scanline.specs.Clock.{recordOf, third, tick}
-use Rattle.scanline.specs.Steps.{matchesAfter, isLine, lineNumber, meets, seenAt, bit7}
+use Rattle.scanline.specs.Steps.{matchesAfter, isLine, lineNumber, meets, seenAt}
 use Rattle.lines.specs.Events.{Event, isClock, fetches, reads, writes, darkens, address, value, counts, vectors, clears}
 use Rattle.lines.specs.Events.Event.{clock, fetch, cpuRead, cpuWrite, ppuWrite, other}
 use Rattle.lines.specs.Machine.{step}
@@ -36,7 +37,7 @@ stepped d e = record {
   «in_frame» = not (resets d e) && (strikes d e || d .«in_frame»);
   scanline = pick (strikes d e) (lineNumber d) (d .scanline);
   pending = not (clears e) && (strikesTarget d e || d .pending);
-  «irq_enabled» = pick (writes 0x5204 e) (bit7 (value e)) (d .«irq_enabled»);
+  «irq_enabled» = pick (writes 0x5204 e) (bitSet (value e) 7) (d .«irq_enabled»);
   «irq_scanline» = pick (writes 0x5203 e) (value e) (d .«irq_scanline»);
 }
 

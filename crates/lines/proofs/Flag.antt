@@ -12,10 +12,11 @@ use lib.Dec.{leb, eqb}
 use Rattle.memory.specs.Words.{pick}
 use Rattle.memory.proofs.Tests.{split, and-left, and-right}
 use Rattle.scanline.specs.declared.Detector.{Detector}
-use Rattle.scanline.specs.Steps.{isLine, meets, interruptUp}
+use Rattle.scanline.specs.Steps.{isLine, lineNumber, meets, interruptUp}
+use Rattle.scanline.proofs.StepLaws.{numbered}
 use Rattle.lines.specs.Events.{Event, fetches, reads, address, counts, vectors, clears}
 use Rattle.lines.specs.Events.Event.{clock, fetch, cpuRead, cpuWrite, ppuWrite, other}
-use Rattle.lines.specs.Told.{History, lineAt, lines, inFrame, lastWrite, noneOf, Hit, Flagged, hadBit7, Up, isValue, hits, flag, up}
+use Rattle.lines.specs.Told.{History, lineAt, lines, inFrame, lastWrite, noneOf, Hit, Flagged, hadBit7, Up, isValue, hits, flagTold, up}
 use Rattle.lines.specs.Machine.{step, run}
 use Rattle.lines.proofs.Fields.{strikes, strikesTarget, stepped, by-fields}
 use Rattle.lines.proofs.Agree.{Agrees, agrees, strikes-line}
@@ -42,10 +43,10 @@ join true b c l x p q = rw (p, q)
 join false b c l x p q = rw (← p)
 
 module _ (h : History) (d : Detector) (e : Event) (g : Agrees h d) where
-  on-target : d .«in_frame» && eqb (d .scanline + 1) (d .«irq_scanline») ≡ inFrame h && isValue (lastWrite 0x5203 h) (lines h)
+  on-target : leb 1 (lineNumber d) && eqb (lineNumber d) (d .«irq_scanline») ≡ inFrame h && isValue (lastWrite 0x5203 h) (lines h)
   unfolding inFrame
   on-target =
-      rw (g .in-frame)
+      rw (numbered d (d .«irq_scanline»), g .in-frame)
       (split (inFrame h) (λ t. let p : 1 ≤ lines h = leb-true 1 (lines h) t in rw (t, g .number p, g .target) (target-is (lastWrite 0x5203 h) (lines h) p)) (λ t. rw t))
 
   -- the detector meets its target where the history has a hit
@@ -53,8 +54,8 @@ module _ (h : History) (d : Detector) (e : Event) (g : Agrees h d) where
   unfolding strikesTarget hits meets strikes
   meets-hits = join (counts e) (isLine d (address e)) _ (lineAt e h) _ (strikes-line h d e (g .linked)) on-target
 
-pub flag-is : (h : History) → run h .pending ≡ flag h
-unfolding run flag stepped
+pub flag-is : (h : History) → run h .pending ≡ flagTold h
+unfolding run flagTold stepped
 flag-is [] = refl
 flag-is (e ∷ h) = ap (λ (d : Detector). d .pending) (by-fields (run h) e) ∙ rw (meets-hits h (run h) e (agrees h), flag-is h)
 
@@ -91,30 +92,30 @@ still : (h : History) (e : Event) → not (clears e) ≡ true → Flagged h → 
 unfolding noneOf
 still h e c f = record { after = e ∷ f .after; line = f .line; before = f .before; split = ap (λ x. e ∷ x) (f .split); hit = f .hit; unread = rw c (f .unread) }
 
-pub flag-flagged : (h : History) → flag h ≡ true → Flagged h
-unfolding flag
+pub flag-flagged : (h : History) → flagTold h ≡ true → Flagged h
+unfolding flagTold
 flag-flagged [] p = absurd (false≢true p)
 flag-flagged (e ∷ h) p =
-    let c = and-left (not (clears e)) (hits e h || flag h) p in
-    let q = and-right (not (clears e)) (hits e h || flag h) p in
+    let c = and-left (not (clears e)) (hits e h || flagTold h) p in
+    let q = and-right (not (clears e)) (hits e h || flagTold h) p in
     split (hits e h) (λ t. now h e (hits-hit e h t)) (λ t. still h e c (flag-flagged h (rw t at q)))
 
-pub flag-since : (after : History) (e : Event) (before : History) → Hit e before → noneOf clears after ≡ true → flag (after ++ (e ∷ before)) ≡ true
-unfolding flag noneOf
+pub flag-since : (after : History) (e : Event) (before : History) → Hit e before → noneOf clears after ≡ true → flagTold (after ++ (e ∷ before)) ≡ true
+unfolding flagTold noneOf
 flag-since [] e before t u = rw (line-clears before e (t .line), hit-hits e before t)
 flag-since (x ∷ after) e before t u =
     rw (and-left (not (clears x)) (noneOf clears after) u)
     (split (hits x (after ++ (e ∷ before))) (λ m. rw m) (λ m. rw m (flag-since after e before t (and-right (not (clears x)) (noneOf clears after) u))))
 
-pub flagged-flag : (h : History) → Flagged h → flag h ≡ true
+pub flagged-flag : (h : History) → Flagged h → flagTold h ≡ true
 flagged-flag h f = rw (f .split) (flag-since (f .after) (f .line) (f .before) (f .hit) (f .unread))
 
-pub flag-iff : (h : History) → (flag h ≡ true) ↔ Flagged h
+pub flag-iff : (h : History) → (flagTold h ≡ true) ↔ Flagged h
 flag-iff h = (flag-flagged h, flagged-flag h)
 
 pub up-iff : (h : History) → (up h ≡ true) ↔ Up h
 unfolding up
 up-iff h = (
-  λ p. record { flagged = flag-flagged h (and-left (flag h) (hadBit7 (lastWrite 0x5204 h)) p); enabled = and-right (flag h) (hadBit7 (lastWrite 0x5204 h)) p },
+  λ p. record { flagged = flag-flagged h (and-left (flagTold h) (hadBit7 (lastWrite 0x5204 h)) p); enabled = and-right (flagTold h) (hadBit7 (lastWrite 0x5204 h)) p },
   λ u. rw (flagged-flag h (u .flagged)) (u .enabled),
 )

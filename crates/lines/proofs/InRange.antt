@@ -10,18 +10,18 @@ use Rattle.memory.proofs.Tests.{split}
 use Rattle.scanline.specs.declared.Detector.{Detector}
 use Rattle.scanline.specs.Fetches.{countedAt}
 use Rattle.scanline.specs.Tiles.{tilesOk}
-use Rattle.scanline.specs.Ranges.{rangesOk}
+use Rattle.scanline.specs.Ranges.{detectorOk}
 use Rattle.scanline.proofs.RangeLaws.{ranges-kept}
 use Rattle.lines.specs.Events.{Event}
 use Rattle.lines.specs.Events.Event.{clock, fetch, cpuRead, cpuWrite, ppuWrite, other}
 use Rattle.lines.specs.Told.{History}
-use Rattle.lines.specs.Machine.{step, Watched, refused, tilesBy}
-use Rattle.lines.specs.Promise.{Reached, StaysInRange}
+use Rattle.lines.specs.Machine.{step, Watched, eventRefused, tilesBy}
+use Rattle.lines.specs.Promise.{LedTo, StaysInRange}
 use Rattle.lines.specs.Promise.Played.{at-load, taken}
 
 module _ (w : Watched) where
-  detector : (e : Event) → refused w e ≡ false → rangesOk (w .detector) ≡ true → rangesOk (step (w .detector) e) ≡ true
-  unfolding step refused
+  detector : (e : Event) → eventRefused w e ≡ false → detectorOk (w .detector) ≡ true → detectorOk (step (w .detector) e) ≡ true
+  unfolding step eventRefused
   detector clock p r = ranges-kept .clock (w .detector) r
   detector (fetch a) p r = split (countedAt a) (λ t. rw t (ranges-kept .seen (w .detector) (w .tiles) a t p r)) (λ t. rw t r)
   detector (cpuRead a) p r =
@@ -35,8 +35,8 @@ module _ (w : Watched) where
   detector (ppuWrite a v) p r = split (eqb a 0x2001 && eqb (v / 8 % 4) 0) (λ t. rw t (ranges-kept .darkened (w .detector) r)) (λ t. rw t r)
   detector other p r = r
 
-  tiles : (e : Event) → refused w e ≡ false → tilesOk (w .tiles) ≡ true → tilesOk (tilesBy w e) ≡ true
-  unfolding tilesBy refused
+  tiles : (e : Event) → eventRefused w e ≡ false → tilesOk (w .tiles) ≡ true → tilesOk (tilesBy w e) ≡ true
+  unfolding tilesBy eventRefused
   tiles clock p r = r
   tiles (fetch a) p r = split (countedAt a) (λ t. rw t (ranges-kept .tiles (w .detector) (w .tiles) a t p r)) (λ t. rw t r)
   tiles (cpuRead a) p r = r
@@ -44,7 +44,7 @@ module _ (w : Watched) where
   tiles (ppuWrite a v) p r = r
   tiles other p r = r
 
-kept : {h : History} {w : Watched} → Reached h w → (rangesOk (w .detector) ≡ true) × (tilesOk (w .tiles) ≡ true)
+kept : {h : History} {w : Watched} → LedTo h w → (detectorOk (w .detector) ≡ true) × (tilesOk (w .tiles) ≡ true)
 unfolding tilesOk
 kept at-load = (ranges-kept .at-load, refl)
 kept (taken {s = w} e r t) = rw (t .moved) (detector w e (t .allowed) (kept r .0), tiles w e (t .allowed) (kept r .1))

@@ -6,12 +6,13 @@ use mathlib.Core.Bool.{Bool, true, false, not, _&&_, _||_}
 use mathlib.Core.List.{[], _∷_}
 use borrow.Author.Tests.{eqb-true}
 use lib.Dec.{eqb}
+use Rattle.memory.specs.Bits.{bitSet}
 use Rattle.memory.specs.Words.{pick}
 use Rattle.memory.proofs.Tests.{split}
 use Rattle.scanline.specs.declared.Detector.{Detector}
 use Rattle.scanline.specs.Fetches.{countedAt}
 use Rattle.scanline.specs.Clock.{tick}
-use Rattle.scanline.specs.Steps.{meets, seenAt, interruptUp, bit7}
+use Rattle.scanline.specs.Steps.{meets, seenAt, interruptUp}
 use Rattle.lines.specs.Events.{Event}
 use Rattle.lines.specs.Events.Event.{clock, fetch, cpuRead, cpuWrite, ppuWrite, other}
 use Rattle.lines.specs.Told.{History}
@@ -36,7 +37,7 @@ onward d p (cpuWrite a v) q =
     (λ t. let k : a ≡ 0x5203 = eqb-true a 0x5203 t in rw k)
     (λ t. rw t
     (split (eqb a 0x5204)
-    (λ u. rw u (split (d .pending) (λ w. rw w (split (bit7 v) (λ x. rw x) (λ x. rw x))) (λ w. rw w (split (bit7 v) (λ x. rw x) (λ x. rw x)))))
+    (λ u. rw u (split (d .pending) (λ w. rw w (split (bitSet v 7) (λ x. rw x) (λ x. rw x))) (λ w. rw w (split (bitSet v 7) (λ x. rw x) (λ x. rw x)))))
     (λ u. rw u))))
 onward d p (ppuWrite a v) q = q ∙ split (eqb a 0x2001 && eqb (v / 8 % 4) 0) (λ t. rw t) (λ t. rw t)
 onward d p other q = q

@@ -8,7 +8,7 @@ use mathlib.Core.Bool.{Bool, true, false}
 use mathlib.Core.List.{List, [], _∷_, _++_}
 use borrow.Author.Tests.{leb-true}
 use Rattle.scanline.specs.declared.Detector.{Detector}
-use Rattle.scanline.specs.Steps.{loaded, interruptUp}
+use Rattle.scanline.specs.Steps.{detectorAtLoad, interruptUp}
 use Rattle.lines.specs.Events.{Event}
 use Rattle.lines.specs.Told.{History, lines, inFrame}
 use Rattle.lines.specs.Machine.{step, run, Watched, atLoad, Taken}
@@ -28,7 +28,7 @@ number-is : (h : History) → inFrame h ≡ true → run h .scanline + 1 ≡ lin
 unfolding inFrame
 number-is h f = agrees h .number (leb-true 1 (lines h) f)
 
-module _ (S C : Type 0) (first : S) (Takes : S → C → S → Type 0) (view : S → Detector) (event : C → Event) (starts : view first ≡ loaded) (follows : (s s' : S) (c : C) → Takes s c s' → view s' ≡ step (view s) (event c)) where
+module _ (S C : Type 0) (first : S) (Takes : S → C → S → Type 0) (view : S → Detector) (event : C → Event) (starts : view first ≡ detectorAtLoad) (follows : (s s' : S) (c : C) → Takes s c s' → view s' ≡ step (view s) (event c)) where
   -- the detector is the one that the history runs to
   pub seen : {cs : List C} {s : S} → Played S C first Takes cs s → view s ≡ run (historyOf event cs)
   unfolding historyOf run

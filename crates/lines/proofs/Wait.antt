@@ -10,7 +10,7 @@ use Rattle.memory.specs.Words.{pick}
 use Rattle.memory.proofs.Tests.{split, and-left, and-right}
 use Rattle.lines.specs.Events.{Event, fetches, writes, clears}
 use Rattle.lines.specs.Events.Event.{clock, fetch, cpuRead, cpuWrite, ppuWrite, other}
-use Rattle.lines.specs.Told.{History, breaks, lineAt, lines, lastWrite, noneOf, Hit, Flagged, hadBit7, Waiting, newLines, calm, hits, flag, up}
+use Rattle.lines.specs.Told.{History, breaks, lineAt, lines, lastWrite, noneOf, Hit, Flagged, hadBit7, Waiting, newLines, calm, hits, flagTold, up}
 use Rattle.lines.proofs.Flag.{hits-hit, flag-flagged, flag-since}
 
 none-true : (a b c : Bool) → not (a || b || c) ≡ true → (a ≡ false) × (b ≡ false) × (c ≡ false)
@@ -59,9 +59,9 @@ module _ (h : History) (l n : ℕ) (w : Waiting h l n) where
       let a : n ≡ lines (g ++ h) = cc (i .target, w .target) in
       omega (arith, i .at-line, w .at-line)
 
-  pub no-flag : (g : History) → calm g h ≡ true → newLines g h < n - l → flag (g ++ h) ≡ false
-  unfolding calm newLines flag
-  no-flag [] c k = split (flag h) (λ t. absurd (w .clear (flag-flagged h t))) (λ t. t)
+  pub no-flag : (g : History) → calm g h ≡ true → newLines g h < n - l → flagTold (g ++ h) ≡ false
+  unfolding calm newLines flagTold
+  no-flag [] c k = split (flagTold h) (λ t. absurd (w .clear (flag-flagged h t))) (λ t. t)
   no-flag (e ∷ g) c k =
       let r = and-right (not (breaks e (g ++ h) || writes 0x5203 e || writes 0x5204 e)) (calm g h) c in
       split (hits e (g ++ h))

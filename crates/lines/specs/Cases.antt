@@ -7,12 +7,14 @@ use mathlib.Core.List.{List, [], _∷_, _++_}
 use mathlib.Core.Path.{_≡_}
 use lib.Dec.{eqb, T}
 use Rattle.memory.specs.Words.{pick}
+use Rattle.memory.specs.Tables.{all}
+use Rattle.memory.specs.Tests.{conj}
 use Rattle.scanline.specs.Steps.{statusOf, interruptUp}
 use Rattle.lines.specs.Events.{Event}
 use Rattle.lines.specs.Events.Event.{clock, fetch, cpuRead, cpuWrite, ppuWrite}
-use Rattle.lines.specs.Told.{History, lineAt, inFrame, Waiting, newLines, calm, flag, up}
+use Rattle.lines.specs.Told.{History, lineAt, inFrame, Waiting, newLines, calm, flagTold, up}
 use Rattle.lines.specs.Machine.{watched, allowed}
-use Rattle.lines.specs.Promise.{Reached}
+use Rattle.lines.specs.Promise.{LedTo}
 
 -- calls in the order in which they were made, after h
 unfoldable pub after : History → List Event → History
@@ -116,22 +118,24 @@ cases = edges ++ (readings ++ misreadings)
 
 -- what $5204 reads, as the history alone tells it
 unfoldable pub toldStatus : History → ℕ
-toldStatus h = pick (flag h) 128 0 + pick (inFrame h) 64 0
+toldStatus h = pick (flagTold h) 128 0 + pick (inFrame h) 64 0
 
-abbrev alike : Bool → Bool → Bool
-alike a b = pick a b (not b)
+abbrev agree : Bool → Bool → Bool
+agree a b = pick a b (not b)
 
 -- each call is taken, and the detector and the history alone say the same
-unfoldable pub right : History → ℕ → Bool → Bool
-right h n b =
-    allowed h && (eqb (statusOf (watched h .detector)) n && (eqb (toldStatus h) n && (alike (interruptUp (watched h .detector)) b && alike (up h) b)))
-
-unfoldable pub hold : List Case → Bool
-hold [] = true
-hold (c ∷ cs) = right (after [] (c .calls)) (c .reads) (c .irq) && hold cs
+unfoldable pub right : Case → Bool
+right c =
+    let h = after [] (c .calls) in
+    conj (allowed h
+    ∷ eqb (statusOf (watched h .detector)) (c .reads)
+    ∷ eqb (toldStatus h) (c .reads)
+    ∷ agree (interruptUp (watched h .detector)) (c .irq)
+    ∷ agree (up h) (c .irq)
+    ∷ [])
 
 abbrev pub Cases : Type 0
-Cases = T (hold cases)
+Cases = T (all right cases)
 
 -- The wait of demand 3, worked: at line 0 of a frame, target 2, interrupt enabled. Then come one line and two fetches of the next, and
 -- then the line that the game is served at. All of these calls are taken, so what `Demand3` says of a wait is said of something.
@@ -148,7 +152,7 @@ pub record Worked : Type 0 where
   pub waiting : Waiting waitingFrom 0 2
   pub undisturbed : calm between waitingFrom ≡ true
   pub short : newLines between waitingFrom ≡ 1
-  pub reached-short : Reached (between ++ waitingFrom) (watched (between ++ waitingFrom))
+  pub reached-short : LedTo (between ++ waitingFrom) (watched (between ++ waitingFrom))
   pub line : lineAt last (between ++ waitingFrom) ≡ true
   pub full : newLines (last ∷ between) waitingFrom ≡ 2
-  pub reached-full : Reached (last ∷ (between ++ waitingFrom)) (watched (last ∷ (between ++ waitingFrom)))
+  pub reached-full : LedTo (last ∷ (between ++ waitingFrom)) (watched (last ∷ (between ++ waitingFrom)))

@@ -5,11 +5,12 @@ use mathlib.Core.Path.{_≡_}
 use mathlib.Core.Bool.{Bool, true, false, not, _&&_, _||_}
 use mathlib.Core.List.{[], _∷_}
 use lib.Dec.{eqb}
+use Rattle.memory.specs.Bits.{bitSet}
 use Rattle.memory.specs.Words.{pick}
 use Rattle.scanline.specs.declared.Detector.{Detector}
 use Rattle.scanline.specs.Fetches.{countedAt}
 use Rattle.scanline.specs.Tiles.{raisedBy, leftAfter}
-use Rattle.scanline.specs.Steps.{loaded, matchesAfter, meets, seenAt, clocked, broken, vectorRead, statusRead, targeted, enabledBy, bit7}
+use Rattle.scanline.specs.Steps.{detectorAtLoad, matchesAfter, meets, seenAt, clocked, broken, vectorRead, statusRead, targeted, enabledBy}
 use Rattle.scanline.specs.Ranges.{counterRefused}
 use Rattle.lines.specs.Events.{Event}
 use Rattle.lines.specs.Events.Event.{clock, fetch, cpuRead, cpuWrite, ppuWrite, other}
@@ -25,7 +26,7 @@ step d other = d
 
 -- after all calls of a history, taken or not
 unfoldable pub run : History → Detector
-run [] = loaded
+run [] = detectorAtLoad
 run (e ∷ h) = step (run h) e
 
 -- The detector with its tile count: what refusal 7 looks at.
@@ -34,15 +35,15 @@ pub record Watched : Type 0 where
   pub tiles : ℕ
 
 abbrev pub atLoad : Watched
-atLoad = record { detector = loaded; tiles = 0 }
+atLoad = record { detector = detectorAtLoad; tiles = 0 }
 
-unfoldable pub refused : Watched → Event → Bool
-refused w clock = false
-refused w (fetch a) = counterRefused (w .detector) (w .tiles) a
-refused w (cpuRead a) = false
-refused w (cpuWrite a v) = false
-refused w (ppuWrite a v) = false
-refused w other = false
+unfoldable pub eventRefused : Watched → Event → Bool
+eventRefused w clock = false
+eventRefused w (fetch a) = counterRefused (w .detector) (w .tiles) a
+eventRefused w (cpuRead a) = false
+eventRefused w (cpuWrite a v) = false
+eventRefused w (ppuWrite a v) = false
+eventRefused w other = false
 
 unfoldable pub tilesBy : Watched → Event → ℕ
 tilesBy w clock = w .tiles
@@ -54,7 +55,7 @@ tilesBy w other = w .tiles
 
 -- the call e is taken from w to w': a fetch that refusal 7 is given for is no call of a history
 pub record Taken (w : Watched) (e : Event) (w' : Watched) : Type 0 where
-  pub allowed : refused w e ≡ false
+  pub allowed : eventRefused w e ≡ false
   pub moved : w' ≡ record { detector = step (w .detector) e; tiles = tilesBy w e }
 
 -- after the calls of a history, and whether each of them is taken
@@ -64,7 +65,7 @@ watched (e ∷ h) = record { detector = step (watched h .detector) e; tiles = ti
 
 unfoldable pub allowed : History → Bool
 allowed [] = true
-allowed (e ∷ h) = allowed h && not (refused (watched h) e)
+allowed (e ∷ h) = allowed h && not (eventRefused (watched h) e)
 
 -- The Rust stores `regs.irq_pending` beside the flag and the enable: what a call makes of it, p, where the detector before the call is d.
 -- "`regs.irq_pending`: not stored; shown equal to flag and enable against a definition that stores it."
@@ -72,7 +73,7 @@ unfoldable pub irqPendingBy : Detector → Bool → Event → Bool
 irqPendingBy d p clock = p
 irqPendingBy d p (fetch a) = pick (countedAt a && meets d a) (pick (d .«irq_enabled») true p) p
 irqPendingBy d p (cpuRead a) = pick (eqb a 0xFFFA || eqb a 0xFFFB || eqb a 0x5204) false p
-irqPendingBy d p (cpuWrite a v) = pick (eqb a 0x5204) (pick (bit7 v) (pick (d .pending) true p) false) p
+irqPendingBy d p (cpuWrite a v) = pick (eqb a 0x5204) (pick (bitSet v 7) (pick (d .pending) true p) false) p
 irqPendingBy d p (ppuWrite a v) = p
 irqPendingBy d p other = p
 

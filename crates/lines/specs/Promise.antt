@@ -9,9 +9,9 @@ use mathlib.Core.Logic.{_↔_}
 use mathlib.Core.Bool.{true, false}
 use mathlib.Core.List.{List, [], _∷_, _++_}
 use Rattle.scanline.specs.declared.Detector.{Detector}
-use Rattle.scanline.specs.Steps.{loaded, interruptUp}
+use Rattle.scanline.specs.Steps.{detectorAtLoad, interruptUp}
 use Rattle.scanline.specs.Tiles.{tilesOk}
-use Rattle.scanline.specs.Ranges.{rangesOk}
+use Rattle.scanline.specs.Ranges.{detectorOk}
 use Rattle.lines.specs.Events.{Event}
 use Rattle.lines.specs.Told.{History, lineAt, lines, inFrame, Flagged, Up, Waiting, newLines, calm}
 use Rattle.lines.specs.Machine.{step, irqPending, Watched, atLoad, Taken}
@@ -47,16 +47,16 @@ pub record Demand3 (S C : Type 0) (first : S) (Takes : S → C → S → Type 0)
 -- (A contract speaks of no types, so this is cited by way of its instances: the one below, and the board's, `BoardDemand3` of crate `histories`.)
 abbrev pub AnyMachine : Type 1
 AnyMachine = (S C : Type 0) (first : S) (Takes : S → C → S → Type 0) (view : S → Detector) (event : C → Event)
-    → view first ≡ loaded → ((s s' : S) (c : C) → Takes s c s' → view s' ≡ step (view s) (event c)) → Demand3 S C first Takes view event
+    → view first ≡ detectorAtLoad → ((s s' : S) (c : C) → Takes s c s' → view s' ≡ step (view s) (event c)) → Demand3 S C first Takes view event
 
 -- the detector with its tile count, over the calls that it tells apart
 abbrev pub DetectorDemand3 : Type 0
 DetectorDemand3 = Demand3 Watched Event atLoad Taken (λ w. w .detector) (λ e. e)
 
 -- the calls of h, from load on, were all accepted, and left w
-abbrev pub Reached : History → Watched → Type 0
-Reached h w = Played Watched Event atLoad Taken h w
+abbrev pub LedTo : History → Watched → Type 0
+LedTo h w = Played Watched Event atLoad Taken h w
 
 -- accepted calls keep the detector and the tile count within 01's ranges, so that the code's own demands are met at every call
 abbrev pub StaysInRange : Type 0
-StaysInRange = (h : History) (w : Watched) → Reached h w → (rangesOk (w .detector) ≡ true) × (tilesOk (w .tiles) ≡ true)
+StaysInRange = (h : History) (w : Watched) → LedTo h w → (detectorOk (w .detector) ≡ true) × (tilesOk (w .tiles) ≡ true)

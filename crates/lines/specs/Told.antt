@@ -8,6 +8,7 @@ use mathlib.Core.Bool.{Bool, true, false, not, _&&_, _||_}
 use mathlib.Core.List.{List, [], _∷_, _++_}
 use mathlib.Core.Option.{Option, none, some}
 use lib.Dec.{leb, eqb}
+use Rattle.memory.specs.Bits.{bitSet}
 use Rattle.memory.specs.Words.{pick}
 use Rattle.lines.specs.Events.{Event, isClock, fetches, writes, darkens, address, value, counts, vectors, clears}
 
@@ -90,7 +91,7 @@ pub record Flagged (h : History) : Type 0 where
 -- "had bit 7 set"
 unfoldable pub hadBit7 : Option ℕ → Bool
 hadBit7 none = false
-hadBit7 (some v) = eqb (v / 128 % 2) 1
+hadBit7 (some v) = bitSet v 7
 
 -- "The interrupt is up exactly when the flag is set and the last write to $5204 had bit 7 set."
 pub record Up (h : History) : Type 0 where
@@ -128,12 +129,12 @@ isValue (some v) n = eqb n v
 unfoldable pub hits : Event → History → Bool
 hits e h = lineAt e h && (inFrame h && isValue (lastWrite 0x5203 h) (lines h))
 
-unfoldable pub flag : History → Bool
-flag [] = false
-flag (e ∷ h) = not (clears e) && (hits e h || flag h)
+unfoldable pub flagTold : History → Bool
+flagTold [] = false
+flagTold (e ∷ h) = not (clears e) && (hits e h || flagTold h)
 
 unfoldable pub up : History → Bool
-up h = flag h && hadBit7 (lastWrite 0x5204 h)
+up h = flagTold h && hadBit7 (lastWrite 0x5204 h)
 
 abbrev pub TestsAreSentences : Type 0
-TestsAreSentences = (h : History) → ((flag h ≡ true) ↔ Flagged h) × ((up h ≡ true) ↔ Up h)
+TestsAreSentences = (h : History) → ((flagTold h ≡ true) ↔ Flagged h) × ((up h ≡ true) ↔ Up h)

@@ -12,7 +12,7 @@ use lib.Seq.{take-suc, take-all}
 use Rattle.memory.specs.declared.Page.{Page}
 use Rattle.memory.specs.declared.PageWord.{PageWord}
 use Rattle.memory.specs.Words.{pick, pageOf, prgPlace, prgPlaces}
-use Rattle.memory.specs.Tables.{whole, prgShows, prgShowsAs, chrShows, chrShowsAs, all}
+use Rattle.memory.specs.Tables.{wholePage, prgShows, prgShowsAs, chrShows, chrShowsAs, all}
 use Rattle.memory.proofs.Tests.{split, or-false, and-true, and-false, lt-is-le, le-is-le}
 use Rattle.memory.proofs.WordLaws.{by-runs}
 
@@ -47,7 +47,7 @@ prg-run prg ram w hp hr hw = turned (w .0) (2 * (ram / 1024)) (3 + prg / 1024) h
 
 -- The words of a CHR table; `low` is the number of pages that may be marked writable.
 chr-run : (chr low : ℕ) (asRam : Bool) (w : PageWord) → chr ≤ 1048576 → w .0 < 65536
-    → ((1027 ≤ w .0) → (w .0 < 2051) → leb (2051 - low) (w .0) ≡ whole (2050 - w .0) chr && asRam) → low ≤ 1024
+    → ((1027 ≤ w .0) → (w .0 < 2051) → leb (2051 - low) (w .0) ≡ wholePage (2050 - w .0) chr && asRam) → low ≤ 1024
     → ltb (w .0) 3 || (leb (2051 - low) (w .0) && ltb (w .0) (2055 + chr / 1024)) ≡ chrShows chr asRam (pageOf w)
 unfolding chrShowsAs
 chr-run chr low asRam w hc hw marked hl =

@@ -13,7 +13,7 @@ use lib.ListN.{set, replicate}
 use Rattle.memory.specs.declared.PageWord.{PageWord}
 use Rattle.memory.specs.declared.Src.{Src}
 use Rattle.memory.specs.Words.{pick, word, page, wordOf}
-use Rattle.memory.specs.Windows.{banks, start, pageStart, following, windowPage, windowWord, prgWindow}
+use Rattle.memory.specs.Windows.{banks, windowStart, pageStart, following, windowPage, windowWord, prgWindow}
 use Rattle.memory.proofs.Tests.{split}
 
 -- As many whole banks as the buffer holds, where it holds one.
@@ -24,7 +24,7 @@ banks-fit len size h k =
     rw e (div-mul-le-self len size)
 
 -- A window starts in its buffer.
-pub start-inside : (len size bank : ℕ) → 1 ≤ len → 1 ≤ size → start len size bank < len
+pub start-inside : (len size bank : ℕ) → 1 ≤ len → 1 ≤ size → windowStart len size bank < len
 start-inside len size bank h k =
     split (leb size len)
     (λ t.
@@ -36,15 +36,15 @@ start-inside len size bank h k =
     let e : banks len size ≡ 1 = rw (div-eq-of-lt (leb-false _ _ t)) in
     rw (e, mod-one bank) (omega arith))
 
-pub first-page : (len size bank : ℕ) → 1 ≤ len → 1 ≤ size → pageStart len size bank 0 ≡ start len size bank
+pub first-page : (len size bank : ℕ) → 1 ≤ len → 1 ≤ size → pageStart len size bank 0 ≡ windowStart len size bank
 unfolding pageStart
-first-page len size bank h k = rw (add-zero (start len size bank)) (mod-eq-of-lt (start-inside len size bank h k))
+first-page len size bank h k = rw (add-zero (windowStart len size bank)) (mod-eq-of-lt (start-inside len size bank h k))
 
 -- Each page follows the page before it, wrapped.
 pub next-page : (len size bank i : ℕ) → 1024 ≤ len → pageStart len size bank (i + 1) ≡ following len (pageStart len size bank i)
 unfolding pageStart
 next-page len size bank i h =
-    let s = start len size bank in
+    let s = windowStart len size bank in
     let x = (s + 1024 * i) % len in
     let below : x < len = mod-lt (s + 1024 * i) {m = len} (omega arith) in
     let e : (s + 1024 * (i + 1)) % len ≡ (x + 1024) % len = ap (λ (n : ℕ). n % len) (omega arith) ∙ sym (mod-add-mod (s + 1024 * i) len 1024) in
@@ -56,12 +56,12 @@ next-page len size bank i h =
 
 pub start-below : (len size bank i : ℕ) → 1 ≤ len → pageStart len size bank i < len
 unfolding pageStart
-start-below len size bank i h = mod-lt (start len size bank + 1024 * i) {m = len} h
+start-below len size bank i h = mod-lt (windowStart len size bank + 1024 * i) {m = len} h
 
 -- A whole page lies in its buffer.
 pub page-inside : (len size bank i : ℕ) → 1 ≤ len → len % 1024 ≡ 0 → pageStart len size bank i / 1024 * 1024 + 1024 ≤ len
 unfolding pageStart
-page-inside len size bank i h e = omega (arith, mod-lt (start len size bank + 1024 * i) {m = len} h)
+page-inside len size bank i h e = omega (arith, mod-lt (windowStart len size bank + 1024 * i) {m = len} h)
 
 -- 01, rule 2: "CHR windows are one page, number mod pages."
 pub one-page-window : (len number : ℕ) → 1 ≤ len → len % 1024 ≡ 0 → pageStart len 1024 number 0 / 1024 ≡ number % (len / 1024)

@@ -10,11 +10,11 @@ use Rattle.memory.specs.declared.Page.{Page}
 use Rattle.memory.specs.declared.PageWord.{PageWord}
 use Rattle.memory.specs.declared.Src.{Src}
 use Rattle.memory.specs.declared.Src.the-variants.{Blank, PrgRom, PrgRam, Chr, CiRam, ExRam}
-use Rattle.memory.specs.Words.{word, page, blank, flag, named, namedAs, numberOf, wordOf, pageOf}
+use Rattle.memory.specs.Words.{word, page, blank, asBit, named, namedAs, wordNumber, wordOf, pageOf}
 use Rattle.memory.proofs.Tests.{split, and-left, and-right, and-false}
 
 -- A bool as a number.
-pub bit-is : (b : Bool) → boolByte b ≡ flag b
+pub bit-is : (b : Bool) → boolByte b ≡ asBit b
 bit-is true = refl
 bit-is false = refl
 
@@ -22,11 +22,11 @@ pub bit-small : (b : Bool) → boolByte b < 2
 bit-small true = omega arith
 bit-small false = omega arith
 
-flag-small : (b : Bool) → flag b < 2
+flag-small : (b : Bool) → asBit b < 2
 flag-small true = omega arith
 flag-small false = omega arith
 
-flag-two : (b : Bool) → eqb (1 + flag b) 2 ≡ b
+flag-two : (b : Bool) → eqb (1 + asBit b) 2 ≡ b
 flag-two true = refl
 flag-two false = refl
 
@@ -56,7 +56,7 @@ by-runs P w a b c d e f g =
     (λ n6. rw n6 (g (ltb-false _ _ n6)))))))))))))
 
 -- An even number and a flag: the flag is the lowest bit.
-odd-flag : (n k : ℕ) (w : Bool) → n ≡ 2 * k + flag w → eqb (n % 2) 1 ≡ w
+odd-flag : (n k : ℕ) (w : Bool) → n ≡ 2 * k + asBit w → eqb (n % 2) 1 ≡ w
 odd-flag n k true e = eq-eqb (n % 2) 1 (omega arith)
 odd-flag n k false e = ne-eqb (n % 2) 1 (λ (o : n % 2 ≡ 1). omega arith)
 
@@ -65,7 +65,7 @@ same-page s p q = cc
 
 -- By source: of the seven runs only the page's own holds its number, and it gives the page back.
 undone : (s : Src) (i : ℕ) (w : Bool) → namedAs s i w ≡ true → pageOf (wordOf (page s i w)) ≡ page s i w
-unfolding namedAs numberOf
+unfolding namedAs wordNumber
 undone Blank i true h = absurd (false≢true (sym (and-false (eqb i 0)) ∙ h))
 undone Blank i false h =
     let z = eqb-true i 0 (and-left _ _ h) in
@@ -74,7 +74,7 @@ undone Blank i false h =
 undone ExRam i w h =
     let z = eqb-true i 0 h in
     let f = flag-small w in
-    by-runs (λ (q : Page). q ≡ page ExRam i w) (word (1 + flag w))
+    by-runs (λ (q : Page). q ≡ page ExRam i w) (word (1 + asBit w))
     (λ a. absurd (omega arith)) (λ a b. same-page ExRam (omega arith) (flag-two w)) (λ a b. absurd (omega arith)) (λ a b. absurd (omega arith)) (λ a b. absurd (omega arith)) (λ a b. absurd (omega arith)) (λ a. absurd (omega arith))
 undone PrgRom i true h = absurd (false≢true (sym (and-false (ltb i 1024)) ∙ h))
 undone PrgRom i false h =
@@ -84,8 +84,8 @@ undone PrgRom i false h =
 undone PrgRam i w h =
     let k = ltb-true i 64 h in
     let f = flag-small w in
-    by-runs (λ (q : Page). q ≡ page PrgRam i w) (word (65535 - (2 * (i % 64) + flag w)))
-    (λ a. absurd (omega arith)) (λ a b. absurd (omega arith)) (λ a b. absurd (omega arith)) (λ a b. absurd (omega arith)) (λ a b. absurd (omega arith)) (λ a b. absurd (omega arith)) (λ a. same-page PrgRam (omega arith) (odd-flag (65535 - (65535 - (2 * (i % 64) + flag w))) (i % 64) w (omega arith)))
+    by-runs (λ (q : Page). q ≡ page PrgRam i w) (word (65535 - (2 * (i % 64) + asBit w)))
+    (λ a. absurd (omega arith)) (λ a b. absurd (omega arith)) (λ a b. absurd (omega arith)) (λ a b. absurd (omega arith)) (λ a b. absurd (omega arith)) (λ a b. absurd (omega arith)) (λ a. same-page PrgRam (omega arith) (odd-flag (65535 - (65535 - (2 * (i % 64) + asBit w))) (i % 64) w (omega arith)))
 undone Chr i true h =
     let k = ltb-true i 1024 h in
     by-runs (λ (q : Page). q ≡ page Chr i true) (word (2050 - i % 1024))
@@ -97,8 +97,8 @@ undone Chr i false h =
 undone CiRam i w h =
     let k = ltb-true i 2 h in
     let f = flag-small w in
-    by-runs (λ (q : Page). q ≡ page CiRam i w) (word (2051 + 2 * (i % 2) + flag w))
-    (λ a. absurd (omega arith)) (λ a b. absurd (omega arith)) (λ a b. absurd (omega arith)) (λ a b. absurd (omega arith)) (λ a b. same-page CiRam (omega arith) (odd-flag (2051 + 2 * (i % 2) + flag w - 2051) (i % 2) w (omega arith))) (λ a b. absurd (omega arith)) (λ a. absurd (omega arith))
+    by-runs (λ (q : Page). q ≡ page CiRam i w) (word (2051 + 2 * (i % 2) + asBit w))
+    (λ a. absurd (omega arith)) (λ a b. absurd (omega arith)) (λ a b. absurd (omega arith)) (λ a b. absurd (omega arith)) (λ a b. same-page CiRam (omega arith) (odd-flag (2051 + 2 * (i % 2) + asBit w - 2051) (i % 2) w (omega arith))) (λ a b. absurd (omega arith)) (λ a. absurd (omega arith))
 
 -- Taking apart undoes making: a page that has a word is what its word names.
 pub making-is-undone : (p : Page) → named p ≡ true → pageOf (wordOf p) ≡ p

@@ -4,3 +4,5 @@ pub mod Windows
 pub mod Tables
 pub mod Promise
 pub mod Tests
+pub mod Cases
+pub mod Bits

@@ -11,17 +11,17 @@ use Rattle.memory.specs.declared.Src.the-variants.{Blank, PrgRom, PrgRam
 use Rattle.memory.specs.Words.{pageOf}
 
 -- "a whole page of a buffer"
-abbrev pub whole : ℕ → ℕ → Bool
-whole i len = leb (i * 1024 + 1024) len
+abbrev pub wholePage : ℕ → ℕ → Bool
+wholePage i len = leb (i * 1024 + 1024) len
 
 -- "PRG pages show PRG-ROM, PRG-RAM or ExRAM"
 unfoldable pub prgShowsAs : ℕ → ℕ → Src → ℕ → Bool → Bool
 prgShowsAs prg ram Blank i w = not w
-prgShowsAs prg ram PrgRom i w = whole i prg && not w
-prgShowsAs prg ram PrgRam i w = whole i ram
+prgShowsAs prg ram PrgRom i w = wholePage i prg && not w
+prgShowsAs prg ram PrgRam i w = wholePage i ram
 prgShowsAs prg ram Chr i w = false
 prgShowsAs prg ram CiRam i w = false
-prgShowsAs prg ram ExRam i w = whole i 1024
+prgShowsAs prg ram ExRam i w = wholePage i 1024
 
 abbrev pub prgShows : ℕ → ℕ → Page → Bool
 prgShows prg ram p = prgShowsAs prg ram (p .src) (p .index) (p .writable)
@@ -31,9 +31,9 @@ unfoldable pub chrShowsAs : ℕ → Bool → Src → ℕ → Bool → Bool
 chrShowsAs chr asRam Blank i w = not w
 chrShowsAs chr asRam PrgRom i w = false
 chrShowsAs chr asRam PrgRam i w = false
-chrShowsAs chr asRam Chr i w = whole i chr && (not w || asRam)
-chrShowsAs chr asRam CiRam i w = whole i 2048
-chrShowsAs chr asRam ExRam i w = whole i 1024
+chrShowsAs chr asRam Chr i w = wholePage i chr && (not w || asRam)
+chrShowsAs chr asRam CiRam i w = wholePage i 2048
+chrShowsAs chr asRam ExRam i w = wholePage i 1024
 
 abbrev pub chrShows : ℕ → Bool → Page → Bool
 chrShows chr asRam p = chrShowsAs chr asRam (p .src) (p .index) (p .writable)

@@ -14,12 +14,12 @@ abbrev pub banks : ℕ → ℕ → ℕ
 banks len size = max 1 (len / size)
 
 -- "start = (bank mod banks) x 8,192"
-abbrev pub start : ℕ → ℕ → ℕ → ℕ
-start len size bank = (bank % banks len size) * size
+abbrev pub windowStart : ℕ → ℕ → ℕ → ℕ
+windowStart len size bank = (bank % banks len size) * size
 
 -- "page i starts at (start + 1,024 i) mod length"
 unfoldable pub pageStart : ℕ → ℕ → ℕ → ℕ → ℕ
-pageStart len size bank i = (start len size bank + 1024 * i) % len
+pageStart len size bank i = (windowStart len size bank + 1024 * i) % len
 
 -- Where the page after the one at x starts: the next, or the first where the buffer ends. This serves the step of `prg_window` and states no
 -- sentence of 01; that it gives the pages of `pageStart` is `next-page` of `proofs/WindowLaws.antt`.

@@ -37,22 +37,22 @@ namedAs ExRam i w = eqb i 0
 abbrev pub named : Page → Bool
 named p = namedAs (p .src) (p .index) (p .writable)
 
-abbrev pub flag : Bool → ℕ
-flag true = 1
-flag false = 0
+abbrev pub asBit : Bool → ℕ
+asBit true = 1
+asBit false = 0
 
 -- The word's number, in the order of the drawing above `word_of`.
-unfoldable pub numberOf : Src → ℕ → Bool → ℕ
-numberOf Blank i w = 0
-numberOf ExRam i w = 1 + flag w
-numberOf PrgRom i w = 3 + i % 1024
-numberOf Chr i true = 2050 - i % 1024
-numberOf CiRam i w = 2051 + 2 * (i % 2) + flag w
-numberOf Chr i false = 2055 + i % 1024
-numberOf PrgRam i w = 65535 - (2 * (i % 64) + flag w)
+unfoldable pub wordNumber : Src → ℕ → Bool → ℕ
+wordNumber Blank i w = 0
+wordNumber ExRam i w = 1 + asBit w
+wordNumber PrgRom i w = 3 + i % 1024
+wordNumber Chr i true = 2050 - i % 1024
+wordNumber CiRam i w = 2051 + 2 * (i % 2) + asBit w
+wordNumber Chr i false = 2055 + i % 1024
+wordNumber PrgRam i w = 65535 - (2 * (i % 64) + asBit w)
 
 abbrev pub wordOf : Page → PageWord
-wordOf p = word (numberOf (p .src) (p .index) (p .writable))
+wordOf p = word (wordNumber (p .src) (p .index) (p .writable))
 
 -- The page that a word names. The numbers 3,079 to 65,407 belong to no page: they name CHR pages 1,024 and up, which no buffer has.
 unfoldable pub pageOf : PageWord → Page

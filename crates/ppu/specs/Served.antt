@@ -15,7 +15,7 @@ use Rattle.scanline.specs.declared.Detector.{Detector}
 use Rattle.scanline.specs.Fetches.{attributeAt, nameAt}
 use Rattle.scanline.specs.Tiles.{spriteFetch, isPrefetched}
 use Rattle.split.specs.declared.VSplit.{VSplit}
-use Rattle.split.specs.Bits.{_AND_, _OR_, _<<_}
+use Rattle.memory.specs.Bits.{_AND_, _OR_, _<<_}
 use Rattle.split.specs.Control.{splitActive}
 use Rattle.split.specs.Places.{attributeAddress, attributeShift, attributeBits, mirroredByte, patternOffset}
 use Rattle.split.specs.Region.{scrollOf}

@@ -1,5 +1,5 @@
 -- Every call on a state in range leaves it in range, and the recorded lengths as they were.
-use Rattle.scanline.specs.Ranges.{rangesOk as detectorOk}
+use Rattle.scanline.specs.Ranges.{detectorOk}
 use Prim.Native.Nat.{ℕ}
 use mathlib.Core.Bool.{Bool, true, false, _||_, _&&_}
 use mathlib.Core.List.{List}
@@ -13,7 +13,7 @@ use Rattle.memory.specs.Words.{word, pageOf}
 use Rattle.memory.proofs.Tests.{pick-keeps}
 use Rattle.registers.specs.declared.Mirroring.{Mirroring}
 use Rattle.registers.specs.declared.Regs.{Regs}
-use Rattle.registers.specs.Registers.{written, nametableUse, rangesOk as regsOk}
+use Rattle.registers.specs.Registers.{written, nametableUse, regsOk}
 use Rattle.registers.proofs.RangeLaws.{ranges-say, ranges-hold, loaded-in-range, write-keeps}
 use Rattle.scanline.specs.declared.Detector.{Detector}
 use Rattle.scanline.specs.Tiles.{tilesOk}

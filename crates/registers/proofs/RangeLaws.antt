@@ -7,7 +7,7 @@ use borrow.Author.Tests.{leb-true, eqb-true, le-leb, eq-eqb}
 use lib.Dec.{eqb, leb}
 use Rattle.memory.proofs.Tests.{pick-keeps, conj-at}
 use Rattle.registers.specs.declared.Regs.{Regs}
-use Rattle.registers.specs.Registers.{loaded, written, attributeUse, ranges, rangesOk}
+use Rattle.registers.specs.Registers.{regsAtLoad, written, attributeUse, regsRanges, regsOk}
 
 pub record Ranges (g : Regs) : Type 0 where
   pub prg-mode : g .«prg_mode» ≤ 3
@@ -19,33 +19,33 @@ pub record Ranges (g : Regs) : Type 0 where
   pub hi-whole : g .«chr_hi» % 256 ≡ 0
   pub hi-most : g .«chr_hi» ≤ 768
 
-pub ranges-say : (g : Regs) → rangesOk g ≡ true → Ranges g
-unfolding rangesOk
+pub ranges-say : (g : Regs) → regsOk g ≡ true → Ranges g
+unfolding regsOk
 ranges-say g e =
     record {
-      prg-mode = leb-true (g .«prg_mode») 3 (conj-at (ranges g) 0 e);
-      chr-mode = leb-true (g .«chr_mode») 3 (conj-at (ranges g) 1 e);
-      exram-mode = leb-true (g .«exram_mode») 3 (conj-at (ranges g) 2 e);
-      fill-attr = leb-true (g .«fill_attr») 3 (conj-at (ranges g) 3 e);
-      protect-a = leb-true (g .«protect_a») 3 (conj-at (ranges g) 4 e);
-      protect-b = leb-true (g .«protect_b») 3 (conj-at (ranges g) 5 e);
-      hi-whole = eqb-true (g .«chr_hi» % 256) 0 (conj-at (ranges g) 6 e);
-      hi-most = leb-true (g .«chr_hi») 768 (conj-at (ranges g) 7 e);
+      prg-mode = leb-true (g .«prg_mode») 3 (conj-at (regsRanges g) 0 e);
+      chr-mode = leb-true (g .«chr_mode») 3 (conj-at (regsRanges g) 1 e);
+      exram-mode = leb-true (g .«exram_mode») 3 (conj-at (regsRanges g) 2 e);
+      fill-attr = leb-true (g .«fill_attr») 3 (conj-at (regsRanges g) 3 e);
+      protect-a = leb-true (g .«protect_a») 3 (conj-at (regsRanges g) 4 e);
+      protect-b = leb-true (g .«protect_b») 3 (conj-at (regsRanges g) 5 e);
+      hi-whole = eqb-true (g .«chr_hi» % 256) 0 (conj-at (regsRanges g) 6 e);
+      hi-most = leb-true (g .«chr_hi») 768 (conj-at (regsRanges g) 7 e);
     }
 
-pub ranges-hold : (g : Regs) → Ranges g → rangesOk g ≡ true
-unfolding rangesOk
+pub ranges-hold : (g : Regs) → Ranges g → regsOk g ≡ true
+unfolding regsOk
 ranges-hold g r =
     simp (le-leb _ _ (r .prg-mode), le-leb _ _ (r .chr-mode), le-leb _ _ (r .exram-mode), le-leb _ _ (r .fill-attr), le-leb _ _ (r .protect-a), le-leb _ _ (r .protect-b), eq-eqb _ _ (r .hi-whole), le-leb _ _ (r .hi-most))
 
-pub loaded-in-range : rangesOk loaded ≡ true
-unfolding rangesOk
+pub loaded-in-range : regsOk regsAtLoad ≡ true
+unfolding regsOk
 loaded-in-range = refl
 
 abbrev Small : ℕ → Type 0
 Small n = n ≤ 3
 
-pub write-keeps : (g : Regs) (a v : ℕ) → rangesOk g ≡ true → rangesOk (written g a v) ≡ true
+pub write-keeps : (g : Regs) (a v : ℕ) → regsOk g ≡ true → regsOk (written g a v) ≡ true
 unfolding written
 write-keeps g a v e =
     let r = ranges-say g e in

@@ -8,8 +8,8 @@ use Rattle.memory.specs.Words.{pick}
 use Rattle.registers.specs.declared.Regs.{Regs}
 
 -- Load gives "multiplier 255 x 255, fill tile 255, fill attribute 3, modes 8k and 1k, all else 0, off". PRG mode 3 is 8k, CHR mode 3 is 1k.
-abbrev pub loaded : Regs
-loaded =
+abbrev pub regsAtLoad : Regs
+regsAtLoad =
     record { «prg_mode» = 3; «chr_mode» = 3; «protect_a» = 0; «protect_b» = 0; «exram_mode» = 0; «exram_chosen» = false; nametables = 0; «fill_tile» = 255; «fill_attr» = 3; «chr_hi» = 0; multiplicand = 255; multiplier = 255 }
 
 -- "attribute use in 1"
@@ -44,8 +44,8 @@ written g a v =
     }
 
 -- "fill attribute and mode numbers 0-3; protect bytes 0-3; .. `chr_hi` one of 0, 256, 512, 768"
-abbrev pub ranges : Regs → List Bool
-ranges g =
+abbrev pub regsRanges : Regs → List Bool
+regsRanges g =
     leb (g .«prg_mode») 3
     ∷ leb (g .«chr_mode») 3
     ∷ leb (g .«exram_mode») 3
@@ -56,5 +56,5 @@ ranges g =
     ∷ leb (g .«chr_hi») 768
     ∷ []
 
-unfoldable pub rangesOk : Regs → Bool
-rangesOk g = conj (ranges g)
+unfoldable pub regsOk : Regs → Bool
+regsOk g = conj (regsRanges g)

@@ -2,7 +2,7 @@
 // 01, module 3, and their part of module 9; in the Rust, `Regs` and its arms of `write_register`.
 ghost use mathlib.Core.Path.{_≡_};
 ghost use Rattle.memory.specs.Words.{pick};
-ghost use Rattle.registers.specs.Registers.{loaded, written, attributeUse, nametableUse, unlocked, rangesOk};
+ghost use Rattle.registers.specs.Registers.{regsAtLoad, written, attributeUse, nametableUse, unlocked, regsOk};
 ghost use Rattle.registers.specs.Mirrorings.{mirroringOf, mirroringAfter};
 
 // `exram_chosen` says that $5104 was written: nametable use is off before.
@@ -31,7 +31,7 @@ pub enum Mirroring {
 
 // As load leaves them.
 pub fn new() -> Regs
-    ensures { λ r. ⌜ r ≡ loaded ⌝ }
+    ensures { λ r. ⌜ r ≡ regsAtLoad ⌝ }
 {
     Regs {
         prg_mode: 3,
@@ -128,7 +128,7 @@ pub fn mirroring_after(mirroring: Mirroring, addr: u16, val: u8) -> Mirroring
 
 // "fill attribute and mode numbers 0-3; protect bytes 0-3; .. `chr_hi` one of 0, 256, 512, 768"
 pub fn ranges_ok(regs: Regs) -> bool
-    ensures { λ r. ⌜ r ≡ rangesOk regs ⌝ }
+    ensures { λ r. ⌜ r ≡ regsOk regs ⌝ }
 {
     (regs.prg_mode <= 3)
         & ((regs.chr_mode <= 3)

@@ -12,15 +12,15 @@ use Rattle.scanline.specs.Fetches.{countedAt, nameAt}
 use Rattle.scanline.specs.Tiles.{tilesOk, raisedBy, leftAfter, nextTile, tileRefused}
 use Rattle.scanline.specs.Clock.{tick}
 use Rattle.scanline.specs.Steps.{matchesAfter, isLine, lineNumber, seenAt, clocked}
-use Rattle.scanline.specs.Ranges.{rangesOk, lineRefused, counterRefused}
+use Rattle.scanline.specs.Ranges.{detectorOk, lineRefused, counterRefused}
 use Rattle.scanline.specs.Kept.{RangesKept, Keeps}
 
-idle-ok : (d : Detector) → rangesOk d ≡ true → d .«idle_count» ≤ 2
-unfolding rangesOk
+idle-ok : (d : Detector) → detectorOk d ≡ true → d .«idle_count» ≤ 2
+unfolding detectorOk
 idle-ok d r = leb-true (d .«idle_count») 2 (and-left (leb (d .«idle_count») 2) (leb (d .scanline) 65279) r)
 
-line-ok : (d : Detector) → rangesOk d ≡ true → d .scanline ≤ 65279
-unfolding rangesOk
+line-ok : (d : Detector) → detectorOk d ≡ true → d .scanline ≤ 65279
+unfolding detectorOk
 line-ok d r = leb-true (d .scanline) 65279 (and-right (leb (d .«idle_count») 2) (leb (d .scanline) 65279) r)
 
 -- the idle count after a clock
@@ -29,7 +29,7 @@ ticked-idle true n = omega arith
 ticked-idle false n = omega arith
 
 clock : Keeps clocked
-unfolding rangesOk tick
+unfolding detectorOk tick
 clock d r = and-both _ _ (le-leb _ _ (ticked-idle (d .reading) (d .«idle_count»))) (le-leb (d .scanline) 65279 (line-ok d r))
 
 -- a test that is false has each of its causes false
@@ -54,8 +54,8 @@ module _ (d : Detector) (t a : ℕ) (counts : countedAt a ≡ true) (taken : cou
   unfolding lineRefused
   line-after p = split (isLine d a) (λ l. rw l (ltb-false 65279 (lineNumber d) (rw l at line-taken))) (λ l. rw l p)
 
-  seen : rangesOk d ≡ true → rangesOk (seenAt d a) ≡ true
-  unfolding rangesOk seenAt
+  seen : detectorOk d ≡ true → detectorOk (seenAt d a) ≡ true
+  unfolding detectorOk seenAt
   seen r = and-both _ _ (le-leb (d .«idle_count») 2 (idle-ok d r)) (le-leb _ _ (line-after (line-ok d r)))
 
   raised : tilesOk t ≡ true → tilesOk (raisedBy t a) ≡ true
@@ -67,7 +67,7 @@ module _ (d : Detector) (t a : ℕ) (counts : countedAt a ≡ true) (taken : cou
   tiles r = split (leb 2 (matchesAfter d a)) (λ m. rw m) (λ m. rw m (raised r))
 
 pub ranges-kept : RangesKept
-unfolding rangesOk
+unfolding detectorOk
 ranges-kept = record {
   at-load = refl;
   clock = clock;

@@ -3,26 +3,31 @@ use Prim.Native.Nat.{ℕ, _+_, _/_, _%_, _<_, _≤_}
 use mathlib.Core.Path.{_≡_, refl, ap}
 use mathlib.Core.Bool.{Bool, true, false, _&&_, _||_}
 use native.Mathlib.Omega.{arith}
-use borrow.Author.Tests.{ltb-true, lt-ltb, eq-eqb, ne-eqb}
-use lib.Dec.{eqb, ltb}
+use borrow.Author.Tests.{ltb-true, lt-ltb, le-leb, eq-eqb, ne-eqb}
+use lib.Dec.{eqb, leb, ltb}
+use Rattle.memory.specs.Bits.{bitSet}
 use Rattle.memory.specs.Words.{pick}
 use Rattle.memory.proofs.Tests.{same-test, split, and-false}
 use Rattle.scanline.specs.declared.Detector.{Detector}
 use Rattle.scanline.specs.Tiles.{columnOf, nextTile, tileRefused}
 use Rattle.scanline.specs.Fetches.{nameAt}
-use Rattle.scanline.specs.Steps.{matchesAfter, isLine, lineNumber, meets, withRun, seenAt, bit7}
+use Rattle.scanline.specs.Steps.{matchesAfter, isLine, lineNumber, meets, withRun, seenAt}
 use Rattle.scanline.specs.Ranges.{lineRefused}
 
 -- bit 7 of a byte
-pub bit-set : (v : ℕ) → v < 256 → 127 < v → bit7 v ≡ true
+pub bit-set : (v : ℕ) → v < 256 → 127 < v → bitSet v 7 ≡ true
 bit-set v p q = eq-eqb (v / 128 % 2) 1 (omega arith)
 
-pub bit-clear : (v : ℕ) → v ≤ 127 → bit7 v ≡ false
+pub bit-clear : (v : ℕ) → v ≤ 127 → bitSet v 7 ≡ false
 bit-clear v p = ne-eqb (v / 128 % 2) 1 (λ q. omega arith)
 
 -- above n, or above n + 1 with one more
 pub one-more : (n k : ℕ) → ltb n k ≡ ltb (n + 1) (k + 1)
 one-more n k = same-test (ltb n k) (ltb (n + 1) (k + 1)) (λ t. lt-ltb (n + 1) (k + 1) (omega (arith, ltb-true n k t))) (λ t. lt-ltb n k (omega (arith, ltb-true (n + 1) (k + 1) t)))
+
+-- a line is numbered 1 or more where it comes in frame
+pub numbered : (d : Detector) (n : ℕ) → leb 1 (lineNumber d) && eqb (lineNumber d) n ≡ d .«in_frame» && eqb (d .scanline + 1) n
+numbered d n = split (d .«in_frame») (λ t. rw (t, le-leb 1 (d .scanline + 1) (omega arith))) (λ t. rw t)
 
 -- m is the match count that a fetch at a leaves
 module _ (d : Detector) (a m : ℕ) (q : m ≡ matchesAfter d a) where
@@ -33,7 +38,7 @@ module _ (d : Detector) (a m : ℕ) (q : m ≡ matchesAfter d a) where
   -- k is the line's number
   pub line : (k : ℕ) → m ≡ 2 → k ≡ lineNumber d → withRun d a m true k ((d .«in_frame» && eqb k (d .«irq_scanline»)) || d .pending) ≡ seenAt d a
   unfolding seenAt isLine meets
-  line k two n = rw (n, ← q, eq-eqb m 2 two) (split (d .«in_frame») (λ t. rw t) (λ t. rw t))
+  line k two n = rw (n, ← q, eq-eqb m 2 two, numbered d (d .«irq_scanline»)) (split (d .«in_frame») (λ t. rw t) (λ t. rw t))
 
   pub line-over : eqb m 2 && (d .«in_frame» && ltb 65278 (d .scanline)) ≡ lineRefused d a
   unfolding lineRefused isLine

@@ -1,32 +1,15 @@
 -- Worked cases at the edges, one list under one statement: what a definition gives, and what 01 or the Rust says.
 -- 01, "Examples at the edges": "In frame, line counter 65,278 takes a line, 65,279 refuses."
 use Prim.Native.Nat.{ℕ}
-use mathlib.Core.Bool.{Bool, true, false, _&&_}
+use mathlib.Core.Bool.{Bool, true, false}
 use mathlib.Core.List.{List, [], _∷_, _++_}
-use lib.Dec.{eqb, T}
-use Rattle.memory.specs.Words.{pick}
+use lib.Dec.{T}
+use Rattle.memory.specs.Cases.{Case, is, holds, fails, right}
 use Rattle.scanline.specs.declared.Detector.{Detector}
 use Rattle.scanline.specs.Fetches.{countedAt, attributeAt, nameAt}
 use Rattle.scanline.specs.Tiles.{spriteFetch, columnOf, isPrefetched, isFirst, tilesOk, raisedBy, leftAfter}
 use Rattle.scanline.specs.Steps.{matchesAfter, seenAt, clocked, broken, vectorRead, statusRead, targeted, enabledBy, statusOf, interruptUp}
-use Rattle.scanline.specs.Ranges.{rangesOk, counterRefused}
-
-pub record Case : Type 0 where
-  pub gives : ℕ
-  pub says : ℕ
-
-abbrev pub yes : Bool → ℕ
-yes b = pick b 1 0
-
--- a test that holds, one that does not, and a number
-abbrev pub holds : Bool → Case
-holds b = record { gives = yes b; says = 1 }
-
-abbrev pub fails : Bool → Case
-fails b = record { gives = yes b; says = 0 }
-
-abbrev pub is : ℕ → ℕ → Case
-is n k = record { gives = n; says = k }
+use Rattle.scanline.specs.Ranges.{detectorOk, counterRefused}
 
 -- after m fetches at $2000 equal to the one before them, with an idle count of i, in frame or not, at line n, with the interrupt's flag or not; the interrupt is disabled and the target is 5
 abbrev pub at : ℕ → ℕ → Bool → ℕ → Bool → Detector
@@ -101,9 +84,9 @@ refusals =
     ∷ fails (counterRefused (at 1 0 true 3 false) 4294967293 0x3F00)
     ∷ holds (tilesOk 4294967293)
     ∷ fails (tilesOk 4294967294)
-    ∷ holds (rangesOk (at 0 2 true 65279 false))
-    ∷ fails (rangesOk (at 0 3 true 65279 false))
-    ∷ fails (rangesOk (at 0 2 true 65280 false))
+    ∷ holds (detectorOk (at 0 2 true 65279 false))
+    ∷ fails (detectorOk (at 0 3 true 65279 false))
+    ∷ fails (detectorOk (at 0 2 true 65280 false))
     ∷ []
 
 abbrev pub calls : List Case
@@ -126,10 +109,6 @@ calls =
     ∷ holds (interruptUp (enabledBy (at 0 0 true 9 true) 128))
     ∷ fails (interruptUp (enabledBy (at 0 0 true 9 true) 127))
     ∷ []
-
-unfoldable pub right : List Case → Bool
-right [] = true
-right (c ∷ cs) = eqb (c .gives) (c .says) && right cs
 
 abbrev pub Edges : Type 0
 Edges = T (right (addresses ++ (tiles ++ (refusals ++ calls))))

@@ -9,28 +9,28 @@ use Rattle.answers.specs.declared.Answer.the-variants.{Nothing}
 use Rattle.scanline.specs.Fetches.{countedAt}
 use Rattle.scanline.specs.Tiles.{tilesOk, raisedBy, leftAfter}
 use Rattle.scanline.specs.Clock.{recordOf, withRecord, clockOutcome}
-use Rattle.scanline.specs.Steps.{loaded, matchesAfter, seenAt, clocked, broken, vectorRead, statusRead, targeted, enabledBy}
-use Rattle.scanline.specs.Ranges.{rangesOk, counterRefused}
+use Rattle.scanline.specs.Steps.{detectorAtLoad, matchesAfter, seenAt, clocked, broken, vectorRead, statusRead, targeted, enabledBy}
+use Rattle.scanline.specs.Ranges.{detectorOk, counterRefused}
 
 -- a step that keeps the ranges
 abbrev pub Keeps : (Detector → Detector) → Type 0
-Keeps f = (d : Detector) → rangesOk d ≡ true → rangesOk (f d) ≡ true
+Keeps f = (d : Detector) → detectorOk d ≡ true → detectorOk (f d) ≡ true
 
 pub record RangesKept : Type 0 where
-  pub at-load : rangesOk loaded ≡ true
+  pub at-load : detectorOk detectorAtLoad ≡ true
   pub clock : Keeps clocked
   pub darkened : Keeps broken
   pub vector-read : Keeps vectorRead
   pub status-read : Keeps statusRead
   pub target : (v : ℕ) → Keeps (λ d. targeted d v)
   pub enabled : (v : ℕ) → Keeps (λ d. enabledBy d v)
-  pub seen : (d : Detector) (t a : ℕ) → countedAt a ≡ true → counterRefused d t a ≡ false → rangesOk d ≡ true → rangesOk (seenAt d a) ≡ true
+  pub seen : (d : Detector) (t a : ℕ) → countedAt a ≡ true → counterRefused d t a ≡ false → detectorOk d ≡ true → detectorOk (seenAt d a) ≡ true
   -- the tile count between the fetch's parts, and after it
   pub raised : (d : Detector) (t a : ℕ) → countedAt a ≡ true → counterRefused d t a ≡ false → tilesOk t ≡ true → tilesOk (raisedBy t a) ≡ true
   pub tiles : (d : Detector) (t a : ℕ) → countedAt a ≡ true → counterRefused d t a ≡ false → tilesOk t ≡ true → tilesOk (leftAfter (matchesAfter d a) (raisedBy t a)) ≡ true
   -- within the ranges no sum of lib.rt overflows
-  pub idle-fits : (d : Detector) → rangesOk d ≡ true → d .«idle_count» ≤ 2
-  pub line-fits : (d : Detector) → rangesOk d ≡ true → d .scanline < 65535
+  pub idle-fits : (d : Detector) → detectorOk d ≡ true → d .«idle_count» ≤ 2
+  pub line-fits : (d : Detector) → detectorOk d ≡ true → d .scanline < 65535
 
 -- 01, "What must change shape": the lent clock "changes those fields as the state's clock does", and the state's clock changes no others
 pub record SameClock : Type 0 where

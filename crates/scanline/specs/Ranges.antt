@@ -8,8 +8,8 @@ use Rattle.scanline.specs.Tiles.{tileRefused}
 use Rattle.scanline.specs.Steps.{isLine, lineNumber}
 
 -- 01, "STATE ranges": "idle count 0-2; .. line counter within 7's limits"
-unfoldable pub rangesOk : Detector → Bool
-rangesOk d = leb (d .«idle_count») 2 && leb (d .scanline) 65279
+unfoldable pub detectorOk : Detector → Bool
+detectorOk d = leb (d .«idle_count») 2 && leb (d .scanline) 65279
 
 -- 01, refusal 7: "would need .. a line counter above 65,279"
 unfoldable pub lineRefused : Detector → ℕ → Bool

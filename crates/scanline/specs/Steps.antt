@@ -4,13 +4,14 @@
 use Prim.Native.Nat.{ℕ, _+_, _/_, _%_, min}
 use mathlib.Core.Bool.{Bool, true, false, _&&_, _||_}
 use lib.Dec.{leb, eqb}
+use Rattle.memory.specs.Bits.{bitSet}
 use Rattle.memory.specs.Words.{pick}
 use Rattle.scanline.specs.declared.Detector.{Detector}
 use Rattle.scanline.specs.Clock.{recordOf, withRecord, tick}
 
 -- 01, rule 10: load gives "all else 0, off, none"
-abbrev pub loaded : Detector
-loaded = record {
+abbrev pub detectorAtLoad : Detector
+detectorAtLoad = record {
   «prev_some» = false;
   «prev_addr» = record { 0 = 0 };
   «match_count» = 0;
@@ -44,7 +45,7 @@ lineNumber d = pick (d .«in_frame») (d .scanline + 1) 0
 
 -- 00, demand 3: "a line numbered 1 or more equalled the value last written to $5203"
 unfoldable pub meets : Detector → ℕ → Bool
-meets d a = isLine d a && (d .«in_frame» && eqb (d .scanline + 1) (d .«irq_scanline»))
+meets d a = isLine d a && (leb 1 (lineNumber d) && eqb (lineNumber d) (d .«irq_scanline»))
 
 -- the detector after a fetch at a: its match count, whether in frame, the line counter and the flag are given
 abbrev pub withRun : Detector → ℕ → ℕ → Bool → ℕ → Bool → Detector
@@ -90,13 +91,13 @@ withFrame d some framed flag = record {
 abbrev pub broken : Detector → Detector
 broken d = withFrame d false false (d .pending)
 
--- "a CPU read of $FFFA or $FFFB" is a break, and clears the flag
-abbrev pub vectorRead : Detector → Detector
-vectorRead d = withFrame d false false false
-
 -- a CPU read of $5204 clears the flag
 abbrev pub statusRead : Detector → Detector
 statusRead d = withFrame d (d .«prev_some») (d .«in_frame») false
+
+-- "a CPU read of $FFFA or $FFFB" is a break, and clears the flag
+abbrev pub vectorRead : Detector → Detector
+vectorRead d = statusRead (broken d)
 
 -- the two registers changed
 abbrev pub withTarget : Detector → Bool → ℕ → Detector
@@ -117,13 +118,9 @@ withTarget d on n = record {
 abbrev pub targeted : Detector → ℕ → Detector
 targeted d v = withTarget d (d .«irq_enabled») v
 
--- bit 7 of a value
-abbrev pub bit7 : ℕ → Bool
-bit7 v = eqb (v / 128 % 2) 1
-
 -- 00, demand 3: "the last write to $5204 had bit 7 set"; 01, "Easy errors": "clearing the flag on a $5204 disable"
 abbrev pub enabledBy : Detector → ℕ → Detector
-enabledBy d v = withTarget d (bit7 v) (d .«irq_scanline»)
+enabledBy d v = withTarget d (bitSet v 7) (d .«irq_scanline»)
 
 -- Answers ----------------------------------------------------------------------------------------------------------------------------
 

@@ -4,8 +4,8 @@
 // What the names mean stands in specs/: Steps.antt for the calls, Ranges.antt for what is refused.
 ghost use mathlib.Core.Path.{_≡_};
 ghost use Prim.Native.Nat.{_<_, _≤_};
-ghost use Rattle.scanline.specs.Steps.{loaded, matchesAfter, lineNumber, seenAt, clocked, broken, vectorRead, statusRead, targeted, enabledBy, statusOf, interruptUp};
-ghost use Rattle.scanline.specs.Ranges.{rangesOk, lineRefused, counterRefused};
+ghost use Rattle.scanline.specs.Steps.{detectorAtLoad, matchesAfter, lineNumber, seenAt, clocked, broken, vectorRead, statusRead, targeted, enabledBy, statusOf, interruptUp};
+ghost use Rattle.scanline.specs.Ranges.{detectorOk, lineRefused, counterRefused};
 ghost use Rattle.scanline.specs.Kept.{RangesKept, SameClock};
 ghost use Rattle.scanline.specs.Edges.{Edges};
 use memory::PpuAddr;
@@ -28,7 +28,7 @@ pub struct Detector {
 }
 
 pub fn new() -> Detector
-    ensures { λ r. ⌜ r ≡ loaded ⌝ }
+    ensures { λ r. ⌜ r ≡ detectorAtLoad ⌝ }
 {
     Detector {
         prev_some: false,
@@ -183,7 +183,7 @@ pub fn interrupt_up(d: Detector) -> bool
 }
 
 pub fn ranges_ok(d: Detector) -> bool
-    ensures { λ r. ⌜ r ≡ rangesOk d ⌝ }
+    ensures { λ r. ⌜ r ≡ detectorOk d ⌝ }
 {
     (d.idle_count <= 2) & (d.scanline <= 65279)
 }

@@ -5,7 +5,7 @@ use native.Mathlib.Omega.{arith}
 use native.Mathlib.Nat.{lt-of-lt-of-le, div-eq-of-lt}
 use lib.Bits.{and-high, and-mask, or-shifted}
 use lib.Pow.{pow-mono}
-use Rattle.split.specs.Bits.{_AND_, _OR_, _<<_, _>>_}
+use Rattle.memory.specs.Bits.{_AND_, _OR_, _<<_, _>>_}
 use Rattle.split.specs.Places.{attributeAddress, attributeShift, attributeBits, lowThreeClear, patternOffset}
 
 -- The attribute place

@@ -9,7 +9,7 @@ use lib.Dec.{eqb, ltb}
 use Rattle.memory.specs.Words.{pick}
 use Rattle.memory.proofs.Tests.{split}
 use Rattle.split.specs.declared.VSplit.{VSplit}
-use Rattle.split.specs.Bits.{_AND_, _OR_, _<<_}
+use Rattle.memory.specs.Bits.{_AND_, _OR_, _<<_}
 use Rattle.split.specs.Control.{splitRanges}
 use Rattle.split.specs.Region.{scrollOf, sideAt, regionAt, splitAddress, withRegion, afterName}
 use Rattle.split.proofs.ControlLaws.{tile-in-range, address-in-range, in-ranges}

@@ -3,7 +3,7 @@ use Prim.Native.Nat.{ℕ, _%_}
 use mathlib.Core.Bool.{Bool, false, _&&_}
 use lib.Dec.{leb, ltb}
 use Rattle.split.specs.declared.VSplit.{VSplit}
-use Rattle.split.specs.Bits.{bitSet}
+use Rattle.memory.specs.Bits.{bitSet}
 
 -- 01, rule 10: "all else 0, off, none or sprite"; the Rust's side after load is the left one.
 abbrev pub afterLoad : VSplit

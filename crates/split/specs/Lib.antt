@@ -1,4 +1,3 @@
-pub mod Bits
 pub mod Control
 pub mod Region
 pub mod Places

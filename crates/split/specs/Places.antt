@@ -3,7 +3,7 @@ use Prim.Native.Nat.{ℕ, _%_}
 use mathlib.Core.List.{[], _∷_}
 use lib.ListN.{getD}
 use Rattle.split.specs.declared.AttributePlace.{AttributePlace}
-use Rattle.split.specs.Bits.{_AND_, _OR_, _<<_, _>>_}
+use Rattle.memory.specs.Bits.{_AND_, _OR_, _<<_, _>>_}
 
 -- 01, rule 8: "ExRAM at $3C0 OR ((t AND $380) >> 4) OR ((t AND $1F) >> 2)".
 unfoldable pub attributeAddress : ℕ → ℕ

@@ -3,13 +3,13 @@
 use Prim.Native.Nat.{ℕ, _+_, _%_}
 use mathlib.Core.Bool.{Bool, false, _&&_, not}
 use lib.Dec.{eqb, ltb}
-use Rattle.memory.specs.Words.{pick, flag}
+use Rattle.memory.specs.Words.{pick, asBit}
 use Rattle.split.specs.declared.VSplit.{VSplit}
-use Rattle.split.specs.Bits.{_AND_, _OR_, _<<_}
+use Rattle.memory.specs.Bits.{_AND_, _OR_, _<<_}
 
 -- 01, rule 8: "Scroll = (line, + 1 if tile is 40 or more, + $5201) mod 240."
 abbrev pub scrollOf : ℕ → Bool → ℕ → ℕ
-scrollOf line prefetched y = (line + flag prefetched + y) % 240
+scrollOf line prefetched y = (line + asBit prefetched + y) % 240
 
 -- 01, rule 8: "Column 0 sets the region to "left side"."
 unfoldable pub sideAt : VSplit → ℕ → Bool

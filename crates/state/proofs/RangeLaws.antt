@@ -5,8 +5,8 @@ use mathlib.Core.Path.{_≡_}
 use lib.Dec.{leb}
 use Rattle.memory.specs.Tables.{prgTableOk, chrTableOk}
 use Rattle.memory.proofs.Tests.{conj-at}
-use Rattle.registers.specs.Registers.{rangesOk as regsOk}
-use Rattle.scanline.specs.Ranges.{rangesOk as detectorOk}
+use Rattle.registers.specs.Registers.{regsOk}
+use Rattle.scanline.specs.Ranges.{detectorOk}
 use Rattle.scanline.specs.Tiles.{tilesOk}
 use Rattle.split.specs.Control.{splitRanges}
 use Rattle.state.specs.declared.State.{State}

@@ -9,7 +9,7 @@ use lib.Dec.{ltb}
 use lib.ListN.{length, length-append, getD}
 use lib.Seq.{append-snoc}
 use Rattle.memory.proofs.Tests.{split}
-use Rattle.text.specs.Sheet.{Sheet, placed, written}
+use Rattle.text.specs.Sheet.{Sheet, bytePlaced, textWritten}
 use Rattle.text.specs.Digits.{before, digits, readOn, decimalValue, AllDigits}
 use Rattle.text.proofs.SheetLaws.{one-byte, byte-after}
 
@@ -114,9 +114,9 @@ few-digits (suc k) n h =
     omega (arith, length-append (digits (n / 10)) ((48 + n % 10) ∷ [])))
 
 -- What one call of `decimal` writes: the only digit, or the last one after those of the tens.
-pub only-placed : (s u : Sheet) (n b : ℕ) → n < 10 → b ≡ 48 + n % 10 → u ≡ placed s b → u ≡ written s (digits n)
-only-placed s u n b h e f = f ∙ ap (placed s) e ∙ one-byte s (48 + n % 10) ∙ ap (written s) (sym (one-digit n h))
+pub only-placed : (s u : Sheet) (n b : ℕ) → n < 10 → b ≡ 48 + n % 10 → u ≡ bytePlaced s b → u ≡ textWritten s (digits n)
+only-placed s u n b h e f = f ∙ ap (bytePlaced s) e ∙ one-byte s (48 + n % 10) ∙ ap (textWritten s) (sym (one-digit n h))
 
-pub last-placed : (s t u : Sheet) (n b : ℕ) → 10 ≤ n → t ≡ written s (digits (n / 10)) → b ≡ 48 + n % 10 → u ≡ placed t b → u ≡ written s (digits n)
+pub last-placed : (s t u : Sheet) (n b : ℕ) → 10 ≤ n → t ≡ textWritten s (digits (n / 10)) → b ≡ 48 + n % 10 → u ≡ bytePlaced t b → u ≡ textWritten s (digits n)
 last-placed s t u n b h d e f =
-    byte-after s t u (digits (n / 10)) (48 + n % 10) d (f ∙ ap (placed t) e) ∙ ap (written s) (sym (more-digits n h))
+    byte-after s t u (digits (n / 10)) (48 + n % 10) d (f ∙ ap (bytePlaced t) e) ∙ ap (textWritten s) (sym (more-digits n h))

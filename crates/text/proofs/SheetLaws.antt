@@ -8,43 +8,43 @@ use native.Mathlib.Omega.{arith}
 use borrow.Author.Tests.{lt-ltb, le-ltb}
 use lib.ListN.{length, set, length-set, take, drop}
 use lib.Seq.{sets, sets-eq}
-use Rattle.text.specs.Sheet.{Sheet, sheet, placed, written}
+use Rattle.text.specs.Sheet.{Sheet, sheet, bytePlaced, textWritten}
 
-pub placed-in : (out : List ℕ) (at b : ℕ) → at < length out → placed (sheet out at) b ≡ sheet (set out at b) (at + 1)
-unfolding placed
+pub placed-in : (out : List ℕ) (at b : ℕ) → at < length out → bytePlaced (sheet out at) b ≡ sheet (set out at b) (at + 1)
+unfolding bytePlaced
 placed-in out at b h = rw (lt-ltb at (length out) h)
 
-pub placed-out : (out : List ℕ) (at b : ℕ) → length out ≤ at → placed (sheet out at) b ≡ sheet out at
-unfolding placed
+pub placed-out : (out : List ℕ) (at b : ℕ) → length out ≤ at → bytePlaced (sheet out at) b ≡ sheet out at
+unfolding bytePlaced
 placed-out out at b h = rw (le-ltb at (length out) h)
 
 -- A text of one byte.
-pub one-byte : (s : Sheet) (b : ℕ) → placed s b ≡ written s (b ∷ [])
-unfolding written
+pub one-byte : (s : Sheet) (b : ℕ) → bytePlaced s b ≡ textWritten s (b ∷ [])
+unfolding textWritten
 one-byte s b = refl
 
-pub joined : (s : Sheet) (xs ys : List ℕ) → written s (xs ++ ys) ≡ written (written s xs) ys
-unfolding written
+pub joined : (s : Sheet) (xs ys : List ℕ) → textWritten s (xs ++ ys) ≡ textWritten (textWritten s xs) ys
+unfolding textWritten
 joined s [] ys = refl
-joined s (b ∷ xs) ys = joined (placed s b) xs ys
+joined s (b ∷ xs) ys = joined (bytePlaced s b) xs ys
 
 -- A text, then a byte.
-pub byte-after : (s t u : Sheet) (xs : List ℕ) (b : ℕ) → t ≡ written s xs → u ≡ placed t b → u ≡ written s (xs ++ (b ∷ []))
-byte-after s t u xs b e f = f ∙ ap (λ (v : Sheet). placed v b) e ∙ one-byte (written s xs) b ∙ sym (joined s xs (b ∷ []))
+pub byte-after : (s t u : Sheet) (xs : List ℕ) (b : ℕ) → t ≡ textWritten s xs → u ≡ bytePlaced t b → u ≡ textWritten s (xs ++ (b ∷ []))
+byte-after s t u xs b e f = f ∙ ap (λ (v : Sheet). bytePlaced v b) e ∙ one-byte (textWritten s xs) b ∙ sym (joined s xs (b ∷ []))
 
-pub full : (out : List ℕ) (at : ℕ) (xs : List ℕ) → length out ≤ at → written (sheet out at) xs ≡ sheet out at
-unfolding written
+pub full : (out : List ℕ) (at : ℕ) (xs : List ℕ) → length out ≤ at → textWritten (sheet out at) xs ≡ sheet out at
+unfolding textWritten
 full out at [] h = refl
-full out at (b ∷ xs) h = ap (λ (s : Sheet). written s xs) (placed-out out at b h) ∙ full out at xs h
+full out at (b ∷ xs) h = ap (λ (s : Sheet). textWritten s xs) (placed-out out at b h) ∙ full out at xs h
 
-stored : (out : List ℕ) (at : ℕ) (xs : List ℕ) → at + length xs ≤ length out → written (sheet out at) xs ≡ sheet (sets out at xs) (at + length xs)
-unfolding written
+stored : (out : List ℕ) (at : ℕ) (xs : List ℕ) → at + length xs ≤ length out → textWritten (sheet out at) xs ≡ sheet (sets out at xs) (at + length xs)
+unfolding textWritten
 stored out at [] h = ap (sheet out) (sym (add-zero at))
 stored out at (b ∷ xs) h =
-    ap (λ (s : Sheet). written s xs) (placed-in out at b (omega arith) ∙ ap (sheet (set out at b)) (add-one at))
+    ap (λ (s : Sheet). textWritten s xs) (placed-in out at b (omega arith) ∙ ap (sheet (set out at b)) (add-one at))
     ∙ stored (set out at b) (suc at) xs (omega (arith, length-set out at b))
     ∙ ap (sheet (sets (set out at b) (suc at) xs)) (omega arith)
 
 pub fits : (out : List ℕ) (at : ℕ) (xs : List ℕ) → at + length xs ≤ length out
-    → written (sheet out at) xs ≡ sheet (take at out ++ xs ++ drop (at + length xs) out) (at + length xs)
+    → textWritten (sheet out at) xs ≡ sheet (take at out ++ xs ++ drop (at + length xs) out) (at + length xs)
 fits out at xs h = stored out at xs h ∙ ap (λ (l : List ℕ). sheet l (at + length xs)) (sets-eq xs out at h)

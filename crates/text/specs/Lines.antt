@@ -3,7 +3,7 @@ use Prim.Native.Nat.{ℕ, _/_, _%_}
 use mathlib.Core.Bool.{Bool, _||_}
 use mathlib.Core.List.{List, [], _∷_, _++_}
 use lib.Dec.{eqb}
-use Rattle.memory.specs.Words.{pick, flag}
+use Rattle.memory.specs.Words.{pick, asBit}
 use Rattle.answers.specs.declared.Answer.{Answer}
 use Rattle.answers.specs.declared.Refusal.{Refusal}
 use Rattle.answers.specs.declared.Refusal.the-variants.{Length}
@@ -22,7 +22,7 @@ answerWords letter has value = (letter ∷ []) ∷ pick has (digits value ∷ []
 
 -- "One line per record: record number, kind, answer, interrupt 0 or 1."
 abbrev pub acceptedLine : ℕ → ℕ → Answer → Bool → List ℕ
-acceptedLine number kind a up = line (digits number ∷ digits kind ∷ answerWords (letterOf a) (hasValue a) (valueOf a)) (digits (flag up))
+acceptedLine number kind a up = line (digits number ∷ digits kind ∷ answerWords (letterOf a) (hasValue a) (valueOf a)) (digits (asBit up))
 
 -- "A refused call prints number, kind, `!`, refusal"
 abbrev pub refusedLine : ℕ → ℕ → Refusal → List ℕ

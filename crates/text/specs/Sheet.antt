@@ -13,10 +13,10 @@ abbrev pub sheet : List ℕ → ℕ → Sheet
 sheet b p = record { bytes = b; place = p }
 
 -- One byte. Where there is no room it is dropped, and the place stays.
-unfoldable pub placed : Sheet → ℕ → Sheet
-placed s b = pick (ltb (s .place) (length (s .bytes))) (sheet (set (s .bytes) (s .place) b) (s .place + 1)) s
+unfoldable pub bytePlaced : Sheet → ℕ → Sheet
+bytePlaced s b = pick (ltb (s .place) (length (s .bytes))) (sheet (set (s .bytes) (s .place) b) (s .place + 1)) s
 
 -- The bytes of a text, one after another.
-unfoldable pub written : Sheet → List ℕ → Sheet
-written s [] = s
-written s (b ∷ text) = written (placed s b) text
+unfoldable pub textWritten : Sheet → List ℕ → Sheet
+textWritten s [] = s
+textWritten s (b ∷ text) = textWritten (bytePlaced s b) text

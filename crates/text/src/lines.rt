@@ -3,7 +3,7 @@
 ghost use mathlib.Core.Path.{_≡_};
 ghost use mathlib.Core.List.{[], _∷_, _++_};
 ghost use Rattle.memory.specs.Words.{pick};
-ghost use Rattle.text.specs.Sheet.{sheet, written};
+ghost use Rattle.text.specs.Sheet.{sheet, textWritten};
 ghost use Rattle.text.specs.Digits.{digits};
 ghost use Rattle.text.specs.Lines.{valued, loggedLine, refusedLine, unreadableLine, tooLongLine, endLine};
 use crate::words;
@@ -11,7 +11,7 @@ use answers::Refusal;
 
 // The value of an answer and a space, where the answer's letter has one: `R`, `S` and `M`.
 fn value_for(out: &mut [u8], at: usize, letter: u8, value: u8) -> usize
-    ensures { λ r. ⌜ sheet (now (out .exit)) r ≡ written (sheet (now (out .entry)) at) (pick (valued letter) (digits value ++ (32 ∷ [])) []) ⌝ }
+    ensures { λ r. ⌜ sheet (now (out .exit)) r ≡ textWritten (sheet (now (out .entry)) at) (pick (valued letter) (digits value ++ (32 ∷ [])) []) ⌝ }
 {
     if (letter == b'R') | ((letter == b'S') | (letter == b'M')) {
         return words::number(out, at, value as u32, b' ');
@@ -21,7 +21,7 @@ fn value_for(out: &mut [u8], at: usize, letter: u8, value: u8) -> usize
 
 // The line of an accepted call, whose answer is told by two bytes: its letter, with 128 more where the interrupt is up, and its value.
 pub fn logged_line(out: &mut [u8], at: usize, number: u32, kind: u8, first: u8, second: u8) -> usize
-    ensures { λ r. ⌜ sheet (now (out .exit)) r ≡ written (sheet (now (out .entry)) at) (loggedLine number kind first second) ⌝ }
+    ensures { λ r. ⌜ sheet (now (out .exit)) r ≡ textWritten (sheet (now (out .entry)) at) (loggedLine number kind first second) ⌝ }
 {
     let letter = first % 128;
     let a = words::number(out, at, number, b' ');
@@ -33,7 +33,7 @@ pub fn logged_line(out: &mut [u8], at: usize, number: u32, kind: u8, first: u8, 
 
 // The line of a refused call.
 pub fn refused_line(out: &mut [u8], at: usize, number: u32, kind: u8, why: Refusal) -> usize
-    ensures { λ r. ⌜ sheet (now (out .exit)) r ≡ written (sheet (now (out .entry)) at) (refusedLine number kind why) ⌝ }
+    ensures { λ r. ⌜ sheet (now (out .exit)) r ≡ textWritten (sheet (now (out .entry)) at) (refusedLine number kind why) ⌝ }
 {
     let a = words::number(out, at, number, b' ');
     let b = words::number(out, a, kind as u32, b' ');
@@ -43,7 +43,7 @@ pub fn refused_line(out: &mut [u8], at: usize, number: u32, kind: u8, why: Refus
 
 // The line of a record that cannot be read.
 pub fn unreadable_line(out: &mut [u8], at: usize, number: u32, why: Refusal) -> usize
-    ensures { λ r. ⌜ sheet (now (out .exit)) r ≡ written (sheet (now (out .entry)) at) (unreadableLine number why) ⌝ }
+    ensures { λ r. ⌜ sheet (now (out .exit)) r ≡ textWritten (sheet (now (out .entry)) at) (unreadableLine number why) ⌝ }
 {
     let a = words::number(out, at, number, b' ');
     let b = words::letter(out, a, b'?');
@@ -52,7 +52,7 @@ pub fn unreadable_line(out: &mut [u8], at: usize, number: u32, why: Refusal) -> 
 
 // The only line for a trace that is too long.
 pub fn too_long_line(out: &mut [u8], at: usize) -> usize
-    ensures { λ r. ⌜ sheet (now (out .exit)) r ≡ written (sheet (now (out .entry)) at) tooLongLine ⌝ }
+    ensures { λ r. ⌜ sheet (now (out .exit)) r ≡ textWritten (sheet (now (out .entry)) at) tooLongLine ⌝ }
 {
     let a = words::letter(out, at, b'?');
     words::number(out, a, 11, b'\n')
@@ -60,7 +60,7 @@ pub fn too_long_line(out: &mut [u8], at: usize) -> usize
 
 // The last line of a trace that was played whole.
 pub fn end_line(out: &mut [u8], at: usize, count: u32) -> usize
-    ensures { λ r. ⌜ sheet (now (out .exit)) r ≡ written (sheet (now (out .entry)) at) (endLine count) ⌝ }
+    ensures { λ r. ⌜ sheet (now (out .exit)) r ≡ textWritten (sheet (now (out .entry)) at) (endLine count) ⌝ }
 {
     let a = words::put(out, at, b'e');
     let b = words::put(out, a, b'n');

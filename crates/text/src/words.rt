@@ -3,11 +3,11 @@
 ghost use mathlib.Core.Path.{_≡_};
 ghost use Prim.Native.Nat.{_+_, _%_};
 ghost use mathlib.Core.List.{[], _∷_, _++_};
-ghost use Rattle.text.specs.Sheet.{sheet, placed, written};
+ghost use Rattle.text.specs.Sheet.{sheet, bytePlaced, textWritten};
 ghost use Rattle.text.specs.Digits.{digits};
 
 pub fn put(out: &mut [u8], at: usize, byte: u8) -> usize
-    ensures { λ r. ⌜ sheet (now (out .exit)) r ≡ placed (sheet (now (out .entry)) at) byte ⌝ }
+    ensures { λ r. ⌜ sheet (now (out .exit)) r ≡ bytePlaced (sheet (now (out .entry)) at) byte ⌝ }
 {
     if at < out.len() {
         out[at] = byte;
@@ -25,7 +25,7 @@ fn last_digit(n: u32) -> u8
 
 // 01, "Trace": "Numbers are printed in decimal, most significant digit first."
 pub fn decimal(out: &mut [u8], at: usize, n: u32) -> usize
-    ensures { λ r. ⌜ sheet (now (out .exit)) r ≡ written (sheet (now (out .entry)) at) (digits n) ⌝ }
+    ensures { λ r. ⌜ sheet (now (out .exit)) r ≡ textWritten (sheet (now (out .entry)) at) (digits n) ⌝ }
 {
     if n < 10 {
         return put(out, at, last_digit(n));
@@ -36,7 +36,7 @@ pub fn decimal(out: &mut [u8], at: usize, n: u32) -> usize
 
 // A number and the byte after it.
 pub fn number(out: &mut [u8], at: usize, n: u32, after: u8) -> usize
-    ensures { λ r. ⌜ sheet (now (out .exit)) r ≡ written (sheet (now (out .entry)) at) (digits n ++ (after ∷ [])) ⌝ }
+    ensures { λ r. ⌜ sheet (now (out .exit)) r ≡ textWritten (sheet (now (out .entry)) at) (digits n ++ (after ∷ [])) ⌝ }
 {
     let next = decimal(out, at, n);
     put(out, next, after)
@@ -44,7 +44,7 @@ pub fn number(out: &mut [u8], at: usize, n: u32, after: u8) -> usize
 
 // A letter and a space.
 pub fn letter(out: &mut [u8], at: usize, byte: u8) -> usize
-    ensures { λ r. ⌜ sheet (now (out .exit)) r ≡ written (sheet (now (out .entry)) at) (byte ∷ 32 ∷ []) ⌝ }
+    ensures { λ r. ⌜ sheet (now (out .exit)) r ≡ textWritten (sheet (now (out .entry)) at) (byte ∷ 32 ∷ []) ⌝ }
 {
     let next = put(out, at, byte);
     put(out, next, b' ')

@@ -11,21 +11,21 @@ use lib.Seq.{getD-drop}
 use Rattle.memory.proofs.Tests.{split}
 use Rattle.trace.specs.declared.Numeral.{Numeral}
 use Rattle.trace.specs.declared.Numeral.the-variants.{Sound, Padded}
-use Rattle.trace.specs.Numbers.{over, numeral, within, numberAt}
+use Rattle.trace.specs.Numbers.{grouped, numeral, limited, numberAt}
 use Rattle.trace.specs.Promise.{Topped, Bytes, shortest}
 use Rattle.trace.proofs.NumberLaws.{clash, Further, over-sound, within-limit, numeral-advances}
 
 -- What stands over a group: nothing, padding, or more.
-over-none : (low weight : ℕ) (m : Numeral) (next : ℕ) → m ≡ Sound 0 next → over low weight m ≡ Padded
-unfolding over
+over-none : (low weight : ℕ) (m : Numeral) (next : ℕ) → m ≡ Sound 0 next → grouped low weight m ≡ Padded
+unfolding grouped
 over-none low weight m next e = rw e
 
-over-padded : (low weight : ℕ) (m : Numeral) → m ≡ Padded → over low weight m ≡ Padded
-unfolding over
+over-padded : (low weight : ℕ) (m : Numeral) → m ≡ Padded → grouped low weight m ≡ Padded
+unfolding grouped
 over-padded low weight m e = rw e
 
-over-more : (low weight : ℕ) (m : Numeral) (high next : ℕ) → m ≡ Sound high next → (high ≡ 0 → ⊥) → over low weight m ≡ Sound (low + weight * high) next
-unfolding over
+over-more : (low weight : ℕ) (m : Numeral) (high next : ℕ) → m ≡ Sound high next → (high ≡ 0 → ⊥) → grouped low weight m ≡ Sound (low + weight * high) next
+unfolding grouped
 over-more low weight m high next e n = rw (e, ne-eqb high 0 n)
 
 -- A last group of 0 that is not the only one is padding.
@@ -93,7 +93,7 @@ enough-groups (suc groups) (suc more) at (b ∷ bytes) n next l h e =
 
 -- The number of groups refuses nothing that is within the limit.
 pub more-groups : (groups more limit : ℕ) (t : List ℕ) (at n next : ℕ) → groups ≤ more → limit < span groups → numberAt (suc more) limit t at ≡ Sound n next → numberAt (suc groups) limit t at ≡ Sound n next
-unfolding within
+unfolding limited
 more-groups groups more limit t at n next l h e =
     let w : (numeral (suc more) at (drop at t) ≡ Sound n next) × (n ≤ limit) = within-limit limit (numeral (suc more) at (drop at t)) n next e in
     rw (enough-groups groups more at (drop at t) n next l (omega arith) (w .0), le-leb n limit (w .1))

@@ -14,7 +14,7 @@ use lib.Seq.{drop-cons}
 use Rattle.memory.proofs.Tests.{split}
 use Rattle.trace.specs.declared.Numeral.{Numeral}
 use Rattle.trace.specs.declared.Numeral.the-variants.{Sound, Cut, Padded, Above}
-use Rattle.trace.specs.Numbers.{over, numeral, within}
+use Rattle.trace.specs.Numbers.{grouped, numeral, limited}
 
 -- From two answers that cannot be the same.
 pub clash : {A : Type 0} → _≡_ {A = ℕ} 0 1 → A
@@ -27,8 +27,8 @@ regrouped a u b w h = omega (arith, mul-add u b (w * h), mul-assoc u w h)
 more-than-none : (b w h : ℕ) → 1 ≤ w → (h ≡ 0 → ⊥) → b + w * h ≡ 0 → ⊥
 more-than-none b w h p n e = omega (arith, mul-le-mul {n₁ = 1} {m₁ = 1} {n₂ = w} {m₂ = h} p (omega arith))
 
-pub over-over : (a u b w : ℕ) (n : Numeral) → 1 ≤ w → over a u (over b w n) ≡ over (a + u * b) (u * w) n
-unfolding over
+pub over-over : (a u b w : ℕ) (n : Numeral) → 1 ≤ w → grouped a u (grouped b w n) ≡ grouped (a + u * b) (u * w) n
+unfolding grouped
 over-over a u b w (Sound h next) p =
     split (eqb h 0)
     (λ t. rw t)
@@ -48,41 +48,41 @@ module _ (t : List ℕ) (at group : ℕ) (here : at < length t) (is : group ≡ 
   unfolding numeral
   last-group groups h = rw (drop-cons t at 0 here, ← is, lt-ltb group 128 h)
 
-  pub further-group : (groups : ℕ) → 128 ≤ group → numeral (suc groups) at (drop at t) ≡ over (group % 128) 128 (numeral groups (at + 1) (drop (at + 1) t))
+  pub further-group : (groups : ℕ) → 128 ≤ group → numeral (suc groups) at (drop at t) ≡ grouped (group % 128) 128 (numeral groups (at + 1) (drop (at + 1) t))
   unfolding numeral
   further-group groups h = rw (drop-cons t at 0 here, ← is, le-ltb group 128 h, add-one at)
 
   pub further-over : (groups low weight : ℕ) → 128 ≤ group
-      → over low weight (numeral (suc groups) at (drop at t)) ≡ over (low + weight * (group % 128)) (weight * 128) (numeral groups (at + 1) (drop (at + 1) t))
+      → grouped low weight (numeral (suc groups) at (drop at t)) ≡ grouped (low + weight * (group % 128)) (weight * 128) (numeral groups (at + 1) (drop (at + 1) t))
   further-over groups low weight h =
-      ap (over low weight) (further-group groups h) ∙ over-over low weight (group % 128) 128 (numeral groups (at + 1) (drop (at + 1) t)) (omega arith)
+      ap (grouped low weight) (further-group groups h) ∙ over-over low weight (group % 128) 128 (numeral groups (at + 1) (drop (at + 1) t)) (omega arith)
 
   -- The only group.
-  pub only-group : (groups limit : ℕ) → group < 128 → 127 ≤ limit → within limit (numeral (suc groups) at (drop at t)) ≡ Sound group (at + 1)
-  unfolding within
+  pub only-group : (groups limit : ℕ) → group < 128 → 127 ≤ limit → limited limit (numeral (suc groups) at (drop at t)) ≡ Sound group (at + 1)
+  unfolding limited
   only-group groups limit h k = rw (last-group groups h, le-leb group limit (omega arith))
 
   -- A group over others.
   module _ (groups low weight limit : ℕ) where
-    pub padded-group : group ≡ 0 → within limit (over low weight (numeral (suc groups) at (drop at t))) ≡ Padded
-    unfolding within over
+    pub padded-group : group ≡ 0 → limited limit (grouped low weight (numeral (suc groups) at (drop at t))) ≡ Padded
+    unfolding limited grouped
     padded-group h = rw (last-group groups (omega arith), h)
 
     pub top-group : (group ≡ 0 → ⊥) → group < 128 → low + weight * group ≤ limit
-        → within limit (over low weight (numeral (suc groups) at (drop at t))) ≡ Sound (low + weight * group) (at + 1)
-    unfolding within over
+        → limited limit (grouped low weight (numeral (suc groups) at (drop at t))) ≡ Sound (low + weight * group) (at + 1)
+    unfolding limited grouped
     top-group n h k = rw (last-group groups h, ne-eqb group 0 n, le-leb (low + weight * group) limit k)
 
   -- The last group that a number may have.
   module _ (low weight limit : ℕ) (n : group ≡ 0 → ⊥) where
-    pub above-group : limit < low + weight * group → within limit (over low weight (numeral 1 at (drop at t))) ≡ Above
-    unfolding within over numeral
+    pub above-group : limit < low + weight * group → limited limit (grouped low weight (numeral 1 at (drop at t))) ≡ Above
+    unfolding limited grouped numeral
     above-group k =
         split (ltb group 128)
         (λ b. rw (last-group 0 (ltb-true group 128 b), ne-eqb group 0 n, lt-leb (low + weight * group) limit k))
         (λ b. rw (further-group 0 (ltb-false group 128 b)))
 
-    pub sound-group : limit < weight * 128 → low + weight * group ≤ limit → within limit (over low weight (numeral 1 at (drop at t))) ≡ Sound (low + weight * group) (at + 1)
+    pub sound-group : limit < weight * 128 → low + weight * group ≤ limit → limited limit (grouped low weight (numeral 1 at (drop at t))) ≡ Sound (low + weight * group) (at + 1)
     sound-group b k =
         split (ltb group 128)
         (λ s. top-group 0 low weight limit n (ltb-true group 128 s) k)
@@ -93,8 +93,8 @@ pub share-small : (weight group byte : ℕ) → Fits w8 byte → group ≡ byte 
 share-small weight group byte fits is w = mul-le-mul {n₁ = weight} {m₁ = group} {n₂ = 16384} {m₂ = 255} w (omega arith)
 
 -- What is within a limit is at most the limit, and stood there before the limit was asked for.
-pub within-limit : (limit : ℕ) (m : Numeral) (n next : ℕ) → within limit m ≡ Sound n next → (m ≡ Sound n next) × (n ≤ limit)
-unfolding within
+pub within-limit : (limit : ℕ) (m : Numeral) (n next : ℕ) → limited limit m ≡ Sound n next → (m ≡ Sound n next) × (n ≤ limit)
+unfolding limited
 within-limit limit (Sound v at) n next e =
     split (leb v limit)
     (λ t. let s : Sound v at ≡ Sound n next = rw t at e in let i : v ≡ n = cc in (s, omega (arith, leb-true v limit t)))
@@ -110,8 +110,8 @@ pub record Further (low weight : ℕ) (m : Numeral) (n next : ℕ) : Type 0 wher
   pub more : high ≡ 0 → ⊥
   pub sum : n ≡ low + weight * high
 
-pub over-sound : (low weight : ℕ) (m : Numeral) (n next : ℕ) → over low weight m ≡ Sound n next → Further low weight m n next
-unfolding over
+pub over-sound : (low weight : ℕ) (m : Numeral) (n next : ℕ) → grouped low weight m ≡ Sound n next → Further low weight m n next
+unfolding grouped
 over-sound low weight (Sound h at) n next e =
     split (eqb h 0)
     (λ t. let s : Padded ≡ Sound n next = rw t at e in clash (cc))
@@ -134,7 +134,7 @@ numeral-advances (suc groups) at (b ∷ bytes) n next e =
     (omega arith, omega arith))
 
 -- The same of a number at a place of a trace.
-pub number-advances : (groups limit : ℕ) (t : List ℕ) (at n next : ℕ) → within limit (numeral groups at (drop at t)) ≡ Sound n next → (at < next) × (next ≤ length t)
+pub number-advances : (groups limit : ℕ) (t : List ℕ) (at n next : ℕ) → limited limit (numeral groups at (drop at t)) ≡ Sound n next → (at < next) × (next ≤ length t)
 number-advances groups limit t at n next e =
     let i : (at < next) × (next ≤ at + length (drop at t)) = numeral-advances groups at (drop at t) n next (within-limit limit (numeral groups at (drop at t)) n next e .0) in
     (omega arith, omega (arith, length-drop at t))

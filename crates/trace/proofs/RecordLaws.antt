@@ -17,7 +17,7 @@ use Rattle.trace.specs.declared.Found.{Found}
 use Rattle.trace.specs.declared.Found.the-variants.{End, Record, Refused}
 use Rattle.trace.specs.declared.Numeral.{Numeral}
 use Rattle.trace.specs.declared.Numeral.the-variants.{Sound, Cut, Padded, Above}
-use Rattle.trace.specs.Numbers.{numeral, within, numberAt, addressAt, valueAt}
+use Rattle.trace.specs.Numbers.{numeral, limited, numberAt, addressAt, valueAt}
 use Rattle.trace.specs.Records.{HasAddress, HasValue, Form, whole, address, value, unknown, forms, formOf, kindOf, numbered, filled, recordAt, taking}
 use Rattle.trace.specs.Promise.{InRange, SoundRecord, RefusedRecord}
 use Rattle.trace.proofs.NumberLaws.{clash, within-limit, number-advances}
@@ -199,7 +199,7 @@ module _ (t u : List ℕ) (from : ℕ) (same : drop from t ≡ drop from u) wher
   first-of l = rw (getD-drop from l 0 0, add-zero from)
 
   number-same : (groups limit at : ℕ) → from ≤ at → numberAt groups limit t at ≡ numberAt groups limit u at
-  number-same groups limit at h = ap (λ (l : List ℕ). within limit (numeral groups at l)) (later-same at h)
+  number-same groups limit at h = ap (λ (l : List ℕ). limited limit (numeral groups at l)) (later-same at h)
 
   filled-same : (at : ℕ) (form : Form) → from ≤ at → filled t at form ≡ filled u at form
   unfolding filled

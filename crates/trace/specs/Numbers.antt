@@ -11,29 +11,29 @@ use Rattle.trace.specs.declared.Numeral.the-variants.{Sound, Cut, Padded
 
 -- "lowest group first": behind groups worth `low`, a number `high` of which each one counts `weight`. "shortest form only": where it is 0, it is
 -- padding.
-unfoldable pub over : ℕ → ℕ → Numeral → Numeral
-over low weight (Sound high next) = pick (eqb high 0) Padded (Sound (low + weight * high) next)
-over low weight Cut = Cut
-over low weight Padded = Padded
-over low weight Above = Above
+unfoldable pub grouped : ℕ → ℕ → Numeral → Numeral
+grouped low weight (Sound high next) = pick (eqb high 0) Padded (Sound (low + weight * high) next)
+grouped low weight Cut = Cut
+grouped low weight Padded = Padded
+grouped low weight Above = Above
 
 -- The number that bytes begin with, in at most so many groups; the first byte's place is `at`. "top bit set on all but the last": a byte
 -- below 128 is a last group; another is 128 and its group, and a number follows it.
 unfoldable pub numeral : ℕ → ℕ → List ℕ → Numeral
 numeral zero at bytes = Above
 numeral (suc groups) at [] = Cut
-numeral (suc groups) at (b ∷ bytes) = pick (ltb b 128) (Sound b (at + 1)) (over (b % 128) 128 (numeral groups (at + 1) bytes))
+numeral (suc groups) at (b ∷ bytes) = pick (ltb b 128) (Sound b (at + 1)) (grouped (b % 128) 128 (numeral groups (at + 1) bytes))
 
 -- "above its limit"
-unfoldable pub within : ℕ → Numeral → Numeral
-within limit (Sound n next) = pick (leb n limit) (Sound n next) Above
-within limit Cut = Cut
-within limit Padded = Padded
-within limit Above = Above
+unfoldable pub limited : ℕ → Numeral → Numeral
+limited limit (Sound n next) = pick (leb n limit) (Sound n next) Above
+limited limit Cut = Cut
+limited limit Padded = Padded
+limited limit Above = Above
 
 -- The number at a place of a trace, in so many groups and up to a limit.
 abbrev pub numberAt : ℕ → ℕ → List ℕ → ℕ → Numeral
-numberAt groups limit trace at = within limit (numeral groups at (drop at trace))
+numberAt groups limit trace at = limited limit (numeral groups at (drop at trace))
 
 -- "Addresses to 65,535, values to 255." A number of more than three groups is above the one limit, of more than two above the other
 -- (specs/Promise.antt, `address-groups` and `value-groups`).

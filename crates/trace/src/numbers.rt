@@ -2,7 +2,7 @@
 ghost use mathlib.Core.Path.{_≡_};
 ghost use Prim.Native.Nat.{_*_, _<_, _≤_};
 ghost use lib.ListN.{drop};
-ghost use Rattle.trace.specs.Numbers.{over, numeral, within, addressAt, valueAt};
+ghost use Rattle.trace.specs.Numbers.{grouped, numeral, limited, addressAt, valueAt};
 use crate::Numeral;
 
 fn wide(x: u8) -> u32
@@ -14,7 +14,7 @@ fn wide(x: u8) -> u32
 // The last group that a number may have, over groups that say `low`. A top bit makes the number exceed its limit: no test of its own.
 fn last_at(trace: &[u8], at: usize, low: u32, weight: u32, limit: u32) -> Numeral
     requires { ⌜ (low < weight) × (weight ≤ 16384) × (limit < weight * 128) ⌝ }
-    ensures { λ r. ⌜ r ≡ within limit (over low weight (numeral 1 at (drop at (now (trace .entry))))) ⌝ }
+    ensures { λ r. ⌜ r ≡ limited limit (grouped low weight (numeral 1 at (drop at (now (trace .entry))))) ⌝ }
 {
     if trace.len() <= at {
         return Numeral::Cut;
@@ -33,7 +33,7 @@ fn last_at(trace: &[u8], at: usize, low: u32, weight: u32, limit: u32) -> Numera
 // The second of an address's groups, over a first one that says `low`.
 fn second_at(trace: &[u8], at: usize, low: u32) -> Numeral
     requires { ⌜ low < 128 ⌝ }
-    ensures { λ r. ⌜ r ≡ within 65535 (over low 128 (numeral 2 at (drop at (now (trace .entry))))) ⌝ }
+    ensures { λ r. ⌜ r ≡ limited 65535 (grouped low 128 (numeral 2 at (drop at (now (trace .entry))))) ⌝ }
 {
     if trace.len() <= at {
         return Numeral::Cut;

@@ -11,7 +11,7 @@ use Rattle.trace.specs.declared.Found.the-variants.{End, Record, Refused as Unr
 use Rattle.trace.specs.Records.{kindOf, recordAt}
 use Rattle.trace.proofs.RecordLaws.{record-advances}
 use Rattle.text.specs.Lines.{loggedLine, refusedLine, unreadableLine, endLine}
-use Rattle.text.specs.Sheet.{Sheet, sheet, written}
+use Rattle.text.specs.Sheet.{Sheet, sheet, textWritten}
 use Rattle.text.proofs.SheetLaws.{joined}
 use Rattle.player.specs.declared.Ending.{Ending}
 use Rattle.transcript.specs.Printed.{stoppedAt, whyOf, printedFrom}
@@ -23,9 +23,9 @@ pub record Printing (trace log : List ℕ) (e : Ending) (all : Sheet) (to at n :
   pub inside : at ≤ length trace
   pub counted : n ≤ at
   pub short : length trace ≤ 8192
-  pub rest : written (sheet out to) (printedFrom fuel trace at n log e) ≡ all
+  pub rest : textWritten (sheet out to) (printedFrom fuel trace at n log e) ≡ all
 
-pub begins : (trace log : List ℕ) (e : Ending) (out : List ℕ) → length trace ≤ 8192 → Printing trace log e (written (sheet out 0) (printedFrom (suc (length trace)) trace 0 0 log e)) 0 0 0 out
+pub begins : (trace log : List ℕ) (e : Ending) (out : List ℕ) → length trace ≤ 8192 → Printing trace log e (textWritten (sheet out 0) (printedFrom (suc (length trace)) trace 0 0 log e)) 0 0 0 out
 begins trace log e out short =
     record { fuel = suc (length trace); enough = omega arith; inside = omega arith; counted = omega arith; short = short; rest = refl }
 
@@ -35,16 +35,16 @@ module _ (trace log : List ℕ) (e : Ending) (all : Sheet) (to at n : ℕ) (out 
   ends-by zero h i r = absurd (omega (arith, h, i))
   ends-by (suc k) h i r = rw r
 
-  pub ends : (s : Sheet) → Printing trace log e all to at n out → recordAt trace at ≡ End → s ≡ written (sheet out to) (endLine n) → s ≡ all
-  ends s p r w = w ∙ ap (written (sheet out to)) (sym (ends-by (p .fuel) (p .enough) (p .inside) r)) ∙ p .rest
+  pub ends : (s : Sheet) → Printing trace log e all to at n out → recordAt trace at ≡ End → s ≡ textWritten (sheet out to) (endLine n) → s ≡ all
+  ends s p r w = w ∙ ap (textWritten (sheet out to)) (sym (ends-by (p .fuel) (p .enough) (p .inside) r)) ∙ p .rest
 
   unreadable-by : (why : Refusal) (k : ℕ) → length trace < k + at → at ≤ length trace → recordAt trace at ≡ Unreadable why → printedFrom k trace at n log e ≡ unreadableLine n why
   unfolding printedFrom
   unreadable-by why zero h i r = absurd (omega (arith, h, i))
   unreadable-by why (suc k) h i r = rw r
 
-  pub unreadable : (why : Refusal) (s : Sheet) → Printing trace log e all to at n out → recordAt trace at ≡ Unreadable why → s ≡ written (sheet out to) (unreadableLine n why) → s ≡ all
-  unreadable why s p r w = w ∙ ap (written (sheet out to)) (sym (unreadable-by why (p .fuel) (p .enough) (p .inside) r)) ∙ p .rest
+  pub unreadable : (why : Refusal) (s : Sheet) → Printing trace log e all to at n out → recordAt trace at ≡ Unreadable why → s ≡ textWritten (sheet out to) (unreadableLine n why) → s ≡ all
+  unreadable why s p r w = w ∙ ap (textWritten (sheet out to)) (sym (unreadable-by why (p .fuel) (p .enough) (p .inside) r)) ∙ p .rest
 
   module _ (call : Call) (next : ℕ) (found : recordAt trace at ≡ Record call next) where
     refused-by : (k : ℕ) → length trace < k + at → at ≤ length trace → stoppedAt e at ≡ true → printedFrom k trace at n log e ≡ refusedLine n (kindOf call) (whyOf e)
@@ -52,15 +52,15 @@ module _ (trace log : List ℕ) (e : Ending) (all : Sheet) (to at n : ℕ) (out 
     refused-by zero h i t = absurd (omega (arith, h, i))
     refused-by (suc k) h i t = rw (found, t)
 
-    pub refused : (s : Sheet) → Printing trace log e all to at n out → stoppedAt e at ≡ true → s ≡ written (sheet out to) (refusedLine n (kindOf call) (whyOf e)) → s ≡ all
-    refused s p t w = w ∙ ap (written (sheet out to)) (sym (refused-by (p .fuel) (p .enough) (p .inside) t)) ∙ p .rest
+    pub refused : (s : Sheet) → Printing trace log e all to at n out → stoppedAt e at ≡ true → s ≡ textWritten (sheet out to) (refusedLine n (kindOf call) (whyOf e)) → s ≡ all
+    refused s p t w = w ∙ ap (textWritten (sheet out to)) (sym (refused-by (p .fuel) (p .enough) (p .inside) t)) ∙ p .rest
 
     -- The line of an accepted call.
     abbrev line : List ℕ
     line = loggedLine n (kindOf call) (getD log (2 * n) 0) (getD log (2 * n + 1) 0)
 
-    goes-by : (to' : ℕ) (out' : List ℕ) (k : ℕ) → length trace < k + at → Printing trace log e all to at n out → written (sheet out to) (printedFrom k trace at n log e) ≡ all
-        → stoppedAt e at ≡ false → sheet out' to' ≡ written (sheet out to) line → Printing trace log e all to' next (n + 1) out'
+    goes-by : (to' : ℕ) (out' : List ℕ) (k : ℕ) → length trace < k + at → Printing trace log e all to at n out → textWritten (sheet out to) (printedFrom k trace at n log e) ≡ all
+        → stoppedAt e at ≡ false → sheet out' to' ≡ textWritten (sheet out to) line → Printing trace log e all to' next (n + 1) out'
     unfolding printedFrom
     goes-by to' out' zero h p r f w = absurd (omega (arith, h, p .inside))
     goes-by to' out' (suc k) h p r f w =
@@ -71,9 +71,9 @@ module _ (trace log : List ℕ) (e : Ending) (all : Sheet) (to at n : ℕ) (out 
           inside = o .1;
           counted = omega (arith, p .counted, o .0);
           short = p .short;
-          rest = ap (λ (s : Sheet). written s (printedFrom k trace next (n + 1) log e)) w ∙ sym (joined (sheet out to) line (printedFrom k trace next (n + 1) log e)) ∙ (rw (found, f) at r);
+          rest = ap (λ (s : Sheet). textWritten s (printedFrom k trace next (n + 1) log e)) w ∙ sym (joined (sheet out to) line (printedFrom k trace next (n + 1) log e)) ∙ (rw (found, f) at r);
         }
 
     pub goes : (to' : ℕ) (out' : List ℕ) (kind first second : ℕ) → kind ≡ kindOf call → first ≡ getD log (2 * n) 0 → second ≡ getD log (2 * n + 1) 0
-        → Printing trace log e all to at n out → stoppedAt e at ≡ false → sheet out' to' ≡ written (sheet out to) (loggedLine n kind first second) → Printing trace log e all to' next (n + 1) out'
+        → Printing trace log e all to at n out → stoppedAt e at ≡ false → sheet out' to' ≡ textWritten (sheet out to) (loggedLine n kind first second) → Printing trace log e all to' next (n + 1) out'
     goes to' out' kind first second ek ef es p f w = goes-by to' out' (p .fuel) (p .enough) p (p .rest) f (rw (ek, ef, es) at w)

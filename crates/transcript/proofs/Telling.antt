@@ -9,7 +9,7 @@ use lib.Dec.{eqb}
 use lib.ListN.{length, getD, set, length-set}
 use lib.Seq.{getD-set-same, getD-set-other}
 use Rattle.memory.specs.Bytes.{Mem}
-use Rattle.memory.specs.Words.{flag}
+use Rattle.memory.specs.Words.{asBit}
 use Rattle.memory.proofs.Tests.{split}
 use Rattle.answers.specs.declared.Answer.{Answer}
 use Rattle.answers.specs.declared.Answer.the-variants.{Nothing, Register, Served, Page, Blank, Refused}
@@ -88,7 +88,7 @@ second-byte : (log : List ℕ) (n : ℕ) (a : Answer) (up : Bool) → 2 * n + 1 
 unfolding logged
 second-byte log n a up h = getD-set-same (set log (2 * n) (logLetter a up)) (2 * n + 1) (valueOf a) 0 (rw (length-set log (2 * n) (logLetter a up)) h)
 
-letter-with : (a : Answer) (up : Bool) → logLetter a up ≡ letterOf a + 128 * flag up
+letter-with : (a : Answer) (up : Bool) → logLetter a up ≡ letterOf a + 128 * asBit up
 letter-with a true = refl
 letter-with a false = omega arith
 

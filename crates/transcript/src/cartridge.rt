@@ -4,7 +4,7 @@ ghost use Prim.Native.Nat.{ℕ, _+_, _/_, _≤_};
 ghost use lib.ListN.{length};
 ghost use Rattle.memory.specs.Bytes.{memOf};
 ghost use Rattle.banks.specs.Placed.{placed};
-ghost use Rattle.text.specs.Sheet.{sheet, written};
+ghost use Rattle.text.specs.Sheet.{sheet, textWritten};
 ghost use Rattle.transcript.specs.Cartridge.{printedOver, transcript};
 use crate::printed;
 use registers::Mirroring;
@@ -32,7 +32,7 @@ fn print_over(
     exram: &mut [u8],
     log: &mut [u8],
 ) -> usize
-    ensures { λ r. ⌜ sheet (now (out .exit)) r ≡ written (sheet (now (out .entry)) 0)
+    ensures { λ r. ⌜ sheet (now (out .exit)) r ≡ textWritten (sheet (now (out .entry)) 0)
         (printedOver (now (trace .entry)) (memOf (now (prg .entry)) (now (chr .entry)) (now (ram .entry)) (now (ciram .entry)) (now (exram .entry))) (now (log .entry))) ⌝ }
 {
     let loaded = board::loads::load(prg, chr, ram, ciram, exram, false, Mirroring::Horizontal);
@@ -44,7 +44,7 @@ fn print_over(
 
 // What the program prints for a trace, written from the start of `out`; how many bytes of it.
 pub fn transcribe(out: &mut [u8], trace: &[u8]) -> usize
-    ensures { λ r. ⌜ sheet (now (out .exit)) r ≡ written (sheet (now (out .entry)) 0) (transcript (now (trace .entry))) ⌝ }
+    ensures { λ r. ⌜ sheet (now (out .exit)) r ≡ textWritten (sheet (now (out .entry)) 0) (transcript (now (trace .entry))) ⌝ }
 {
     let mut prg = [0u8; 32768];
     let mut chr = [0u8; 8192];

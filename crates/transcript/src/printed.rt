@@ -2,7 +2,7 @@
 ghost use mathlib.Core.Path.{_≡_};
 ghost use Prim.Native.Nat.{suc, _≤_};
 ghost use lib.ListN.{length};
-ghost use Rattle.text.specs.Sheet.{sheet, written};
+ghost use Rattle.text.specs.Sheet.{sheet, textWritten};
 ghost use Rattle.transcript.specs.Printed.{stoppedAt, whyOf, printedFrom, printed};
 use answers::Refusal;
 use player::Ending;
@@ -30,7 +30,7 @@ fn why_of(ending: Ending) -> Refusal
 // The lines of a trace that is not too long.
 fn print_records(out: &mut [u8], trace: &[u8], log: &[u8], ending: Ending) -> usize
     requires { ⌜ length (now trace) ≤ 8192 ⌝ }
-    ensures { λ r. ⌜ sheet (now (out .exit)) r ≡ written (sheet (now (out .entry)) 0) (printedFrom (suc (length (now (trace .entry)))) (now (trace .entry)) 0 0 (now (log .entry)) ending) ⌝ }
+    ensures { λ r. ⌜ sheet (now (out .exit)) r ≡ textWritten (sheet (now (out .entry)) 0) (printedFrom (suc (length (now (trace .entry)))) (now (trace .entry)) 0 0 (now (log .entry)) ending) ⌝ }
 {
     let mut to: usize = 0;
     let mut at: usize = 0;
@@ -62,7 +62,7 @@ fn print_records(out: &mut [u8], trace: &[u8], log: &[u8], ending: Ending) -> us
 
 // What is printed of a replay.
 pub fn print(out: &mut [u8], trace: &[u8], log: &[u8], ending: Ending) -> usize
-    ensures { λ r. ⌜ sheet (now (out .exit)) r ≡ written (sheet (now (out .entry)) 0) (printed (now (trace .entry)) (now (log .entry)) ending) ⌝ }
+    ensures { λ r. ⌜ sheet (now (out .exit)) r ≡ textWritten (sheet (now (out .entry)) 0) (printed (now (trace .entry)) (now (log .entry)) ending) ⌝ }
 {
     if trace::too_long(trace.len()) {
         return text::lines::too_long_line(out, 0);

@@ -13,9 +13,9 @@ use Rattle.memory.specs.Words.{pick, word, pageOf, prgPlace, prgPlaces}
 use Rattle.memory.proofs.TableLaws.{Tested, test-first, prg-run}
 use Rattle.memory.proofs.Tests.{split, and-false}
 use Rattle.registers.specs.declared.Regs.{Regs}
-use Rattle.registers.specs.Registers.{rangesOk as regsOk}
+use Rattle.registers.specs.Registers.{regsOk}
 use Rattle.scanline.specs.declared.Detector.{Detector}
-use Rattle.scanline.specs.Ranges.{rangesOk as detectorOk}
+use Rattle.scanline.specs.Ranges.{detectorOk}
 use Rattle.scanline.specs.Tiles.{tilesOk}
 use Rattle.split.specs.declared.VSplit.{VSplit}
 use Rattle.split.specs.Control.{splitRanges}

@@ -8,7 +8,7 @@ use native.Mathlib.Omega.{arith}
 use borrow.Author.Tests.{leb-true}
 use lib.Dec.{eqb, leb}
 use lib.ListN.{length, getD}
-use Rattle.memory.specs.Words.{flag, word}
+use Rattle.memory.specs.Words.{asBit, word}
 use Rattle.memory.specs.declared.PageWord.{PageWord}
 use Rattle.memory.proofs.Tests.{conj-at}
 use Rattle.registers.specs.declared.Mirroring.{Mirroring}
@@ -20,7 +20,7 @@ use Rattle.state.specs.declared.Lengths.{Lengths}
 use Rattle.state.specs.declared.PpuStatus.{PpuStatus}
 use Rattle.state.specs.declared.State.{State}
 use Rattle.words.specs.Promise.{Lent, Promised}
-use Rattle.words.specs.Words.{Words, flagTests, good, mirroringNumbered, numberOfMirroring, pagesOf, numbersOf, numberIn, stateOf, wordsOf, bytesOf, halvesOf, wideOf}
+use Rattle.words.specs.Words.{Words, flagTests, good, mirroringNumbered, numberOfMirroring, pagesOf, numbersOf, pageNumber, stateOf, wordsOf, bytesOf, halvesOf, wideOf}
 
 -- A list, element by element.
 abbrev pub upFrom : ℕ → ℕ → (ℕ → ℕ) → List ℕ
@@ -37,12 +37,12 @@ spelled (x ∷ l) k f h =
 pub listed : (l : List ℕ) (n : ℕ) → length l ≡ n → upFrom 0 n (λ (i : ℕ). getD l i 0) ≡ l
 listed l n e = ap (λ (m : ℕ). upFrom 0 m (λ (i : ℕ). getD l i 0)) (sym e) ∙ spelled l 0 (λ (i : ℕ). getD l i 0) (λ (i : ℕ). ap (λ (j : ℕ). getD l j 0) (omega arith))
 
-flag-small : (n : ℕ) → n ≤ 1 → flag (eqb n 1) ≡ n
+flag-small : (n : ℕ) → n ≤ 1 → asBit (eqb n 1) ≡ n
 flag-small zero h = refl
 flag-small (suc zero) h = refl
 flag-small (suc (suc n)) h = absurd (omega arith)
 
-pub flag-back : (n : ℕ) → leb n 1 ≡ true → flag (eqb n 1) ≡ n
+pub flag-back : (n : ℕ) → leb n 1 ≡ true → asBit (eqb n 1) ≡ n
 flag-back n e = flag-small n (leb-true n 1 e)
 
 mirroring-small : (n : ℕ) → n ≤ 4 → numberOfMirroring (mirroringNumbered n) ≡ n
@@ -93,7 +93,7 @@ pub words-back : (w : Words) → length (w .bytes) ≡ 33 → length (w .halves)
 words-back w eb eh ew g = rw (bytes-back w eb g, halves-back w eh, wide-back w ew, numbers-back (w .prgPages), numbers-back (w .chrPages))
 
 -- A state's words, read again.
-flag-forth : (b : Bool) → eqb (flag b) 1 ≡ b
+flag-forth : (b : Bool) → eqb (asBit b) 1 ≡ b
 flag-forth true = refl
 flag-forth false = refl
 

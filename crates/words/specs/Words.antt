@@ -8,7 +8,7 @@ use lib.ListN.{getD}
 use Rattle.memory.specs.declared.PageWord.{PageWord}
 use Rattle.memory.specs.declared.PpuAddr.{PpuAddr}
 use Rattle.memory.specs.Tests.{conj}
-use Rattle.memory.specs.Words.{pick, flag, word}
+use Rattle.memory.specs.Words.{pick, asBit, word}
 use Rattle.registers.specs.declared.Mirroring.{Mirroring}
 use Rattle.registers.specs.declared.Mirroring.the-variants.{Horizontal, Vertical, SingleScreenA, SingleScreenB, FourScreen}
 use Rattle.registers.specs.declared.Regs.{Regs}
@@ -104,19 +104,19 @@ detectorOf b h =
       «irq_scanline» = getD b 32 0;
     }
 
-abbrev pub statusOf : List ℕ → List ℕ → List ℕ → PpuStatus
-statusOf b h w =
+abbrev pub ppuStatusIn : List ℕ → List ℕ → List ℕ → PpuStatus
+ppuStatusIn b h w =
     record { «tile_number» = getD w 5 0; «tile_cache» = getD h 4 0; sprite8x16 = flagAt b 11; rendering = flagAt b 12; «bg_set» = flagAt b 13; «bg_written» = flagAt b 14 }
 
 -- A page table is lent as the numbers of its page words.
 abbrev pub pagesOf : List ℕ → List PageWord
 pagesOf l = map word l
 
-abbrev pub numberIn : PageWord → ℕ
-numberIn w = w .0
+abbrev pub pageNumber : PageWord → ℕ
+pageNumber w = w .0
 
 abbrev pub numbersOf : List PageWord → List ℕ
-numbersOf l = map numberIn l
+numbersOf l = map pageNumber l
 
 -- The state that words stand for.
 abbrev pub stateOf : Words → State
@@ -126,7 +126,7 @@ stateOf x =
       regs = regsOf (x .bytes) (x .halves);
       vsplit = splitOf (x .bytes) (x .halves);
       irq = detectorOf (x .bytes) (x .halves);
-      ppu = statusOf (x .bytes) (x .halves) (x .wide);
+      ppu = ppuStatusIn (x .bytes) (x .halves) (x .wide);
       screen = record { mirroring = mirroringNumbered (getD (x .bytes) 15 0) };
       «prg_banks» = x .prgBanks;
       «chr_banks» = x .chrBanks;
@@ -137,10 +137,10 @@ stateOf x =
 -- The words that stand for a state.
 abbrev pub bytesOf : State → List ℕ
 bytesOf s =
-    flag (s .lengths .loaded) ∷ flag (s .lengths .«chr_writable») ∷ flag (s .regs .«exram_chosen»)
-    ∷ flag (s .vsplit .enabled) ∷ flag (s .vsplit .right) ∷ flag (s .vsplit .«in_region»)
-    ∷ flag (s .irq .«prev_some») ∷ flag (s .irq .reading) ∷ flag (s .irq .«in_frame») ∷ flag (s .irq .pending) ∷ flag (s .irq .«irq_enabled»)
-    ∷ flag (s .ppu .sprite8x16) ∷ flag (s .ppu .rendering) ∷ flag (s .ppu .«bg_set») ∷ flag (s .ppu .«bg_written»)
+    asBit (s .lengths .loaded) ∷ asBit (s .lengths .«chr_writable») ∷ asBit (s .regs .«exram_chosen»)
+    ∷ asBit (s .vsplit .enabled) ∷ asBit (s .vsplit .right) ∷ asBit (s .vsplit .«in_region»)
+    ∷ asBit (s .irq .«prev_some») ∷ asBit (s .irq .reading) ∷ asBit (s .irq .«in_frame») ∷ asBit (s .irq .pending) ∷ asBit (s .irq .«irq_enabled»)
+    ∷ asBit (s .ppu .sprite8x16) ∷ asBit (s .ppu .rendering) ∷ asBit (s .ppu .«bg_set») ∷ asBit (s .ppu .«bg_written»)
     ∷ numberOfMirroring (s .screen .mirroring)
     ∷ s .regs .«prg_mode» ∷ s .regs .«chr_mode» ∷ s .regs .«protect_a» ∷ s .regs .«protect_b» ∷ s .regs .«exram_mode»
     ∷ s .regs .nametables ∷ s .regs .«fill_tile» ∷ s .regs .«fill_attr» ∷ s .regs .multiplicand ∷ s .regs .multiplier

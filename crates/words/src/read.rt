@@ -3,7 +3,7 @@ ghost use mathlib.Core.Path.{_≡_};
 ghost use lib.Dec.{ltb};
 ghost use lib.ListN.{length};
 ghost use Rattle.memory.specs.Words.{pick};
-ghost use Rattle.words.specs.Words.{flagAt, mirroringNumbered, good, lengthsOf, regsOf, splitOf, detectorOf, statusOf, stateOf, wordsAt};
+ghost use Rattle.words.specs.Words.{flagAt, mirroringNumbered, good, lengthsOf, regsOf, splitOf, detectorOf, ppuStatusIn, stateOf, wordsAt};
 use crate::tables;
 use memory::PpuAddr;
 use registers::Mirroring;
@@ -120,7 +120,7 @@ pub fn detector_of(bytes: &[u8; 33], halves: &[u16; 5]) -> Detector
 }
 
 pub fn status_of(bytes: &[u8; 33], halves: &[u16; 5], wide: &[u32; 6]) -> PpuStatus
-    ensures { λ r. ⌜ r ≡ statusOf (now (bytes .entry)) (now (halves .entry)) (now (wide .entry)) ⌝ }
+    ensures { λ r. ⌜ r ≡ ppuStatusIn (now (bytes .entry)) (now (halves .entry)) (now (wide .entry)) ⌝ }
 {
     PpuStatus {
         tile_number: wide[5],

@@ -1,7 +1,7 @@
 -- `promises` holds: the ranges are kept, by `ranges-kept`; the two clocks are one, by `same-clock`; the worked cases, by computation.
+use Rattle.memory.specs.Tables.{all}
 use Rattle.scanline.specs.Clock.{tick}
-use Rattle.scanline.specs.Ranges.{rangesOk, lineRefused, counterRefused}
-use Rattle.scanline.specs.Edges.{right}
+use Rattle.scanline.specs.Ranges.{detectorOk, lineRefused, counterRefused}
 use Rattle.scanline.specs.Steps.{again, matchesAfter, isLine, meets, seenAt}
 use Rattle.scanline.specs.Tiles.{spriteFetch, columnOf, isPrefetched, isFirst, tilesOk, nextTile, tileRefused}
 use Rattle.scanline.proofs.ClockLaws.{same-clock}
@@ -10,7 +10,7 @@ use Rattle.scanline.proofs.promises.Statement.{statement}
 use Rattle.scanline.proofs.promises.Tie as tie
 
 returns : tie.Need-returns
-unfolding rangesOk lineRefused counterRefused spriteFetch columnOf isPrefetched isFirst tilesOk nextTile tileRefused tick again matchesAfter isLine meets seenAt right
+unfolding detectorOk lineRefused counterRefused spriteFetch columnOf isPrefetched isFirst tilesOk nextTile tileRefused tick again matchesAfter isLine meets seenAt all
 returns c = (ranges-kept, same-clock, tt)
 
 pub promises-spec : {M : Type 1} → statement M

@@ -1,11 +1,11 @@
 -- The detector's ranges: the idle count and the line counter.
 use mathlib.Core.Path.{refl}
-use Rattle.scanline.specs.Ranges.{rangesOk}
+use Rattle.scanline.specs.Ranges.{detectorOk}
 use Rattle.scanline.proofs.ranges_ok.Statement.{statement}
 use Rattle.scanline.proofs.ranges_ok.Tie as tie
 
 returns : tie.Need-returns
-unfolding rangesOk
+unfolding detectorOk
 returns c = refl
 
 pub ranges-ok-spec : {M : Type 1} → statement M

@@ -1,5 +1,6 @@
 -- Each case is computed.
 use mathlib.Core.Path.{refl}
+use Rattle.memory.specs.Tables.{all}
 use Rattle.split.specs.Examples.{Examples, splitCases}
 use Rattle.split.specs.Places.{attributeAddress, attributeShift, mirroredByte, patternOffset}
 use Rattle.split.specs.Region.{sideAt, regionAt, splitAddress, afterName}
@@ -7,7 +8,7 @@ use Rattle.split.proofs.examples.Statement.{statement}
 use Rattle.split.proofs.examples.Tie as tie
 
 returns : tie.Need-returns
-unfolding splitCases Examples sideAt regionAt splitAddress afterName attributeAddress attributeShift mirroredByte patternOffset
+unfolding all splitCases Examples sideAt regionAt splitAddress afterName attributeAddress attributeShift mirroredByte patternOffset
 returns c = refl
 
 pub examples-spec : {M : Type 1} → statement M

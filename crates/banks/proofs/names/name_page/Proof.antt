@@ -2,7 +2,7 @@
 use borrow.Author.Needs.{needs}
 use borrow.Author.Tests.{ne-eqb}
 use Rattle.banks.specs.Names.{namePage}
-use Rattle.memory.specs.Words.{numberOf}
+use Rattle.memory.specs.Words.{wordNumber}
 use Rattle.banks.proofs.names.name_page.Statement.{statement}
 use Rattle.banks.proofs.names.name_page.Tie as tie
 
@@ -28,11 +28,11 @@ unfolding namePage
 returns-3 c = rw (c .before .before .match .keys3, c .before .if1 .taken) (c .word-of3 .ensures)
 
 returns-4 : tie.Need-returns-4
-unfolding namePage numberOf
+unfolding namePage wordNumber
 returns-4 c = rw (c .before .match .keys3, c .if1 .left)
 
 returns-5 : tie.Need-returns-5
-unfolding namePage numberOf
+unfolding namePage wordNumber
 returns-5 c = simp (ne-eqb _ _ (c .match .rest .0 .0 .1), ne-eqb _ _ (c .match .rest .0 .1), ne-eqb _ _ (c .match .rest .1))
 
 pub name-page-spec : {M : Type 1} → statement M

@@ -2,12 +2,12 @@
 use borrow.Author.Needs.{needs}
 use borrow.Author.Tests.{lt-ltb, le-ltb}
 use Rattle.banks.specs.Prg.{exramPage}
-use Rattle.memory.specs.Words.{numberOf}
+use Rattle.memory.specs.Words.{wordNumber}
 use Rattle.banks.proofs.prg.exram_page.Statement.{statement}
 use Rattle.banks.proofs.prg.exram_page.Tie as tie
 
 returns : tie.Need-returns
-unfolding exramPage numberOf
+unfolding exramPage wordNumber
 returns c = rw (lt-ltb _ _ (c .if1 .taken))
 
 word-of-requires : tie.Need-word-of-requires

@@ -3,12 +3,12 @@ use mathlib.Core.Path.{_∙_}
 use borrow.Author.Needs.{needs}
 use borrow.Author.Tests.{eq-eqb, ne-eqb}
 use Rattle.memory.specs.Windows.{windowPage}
-use Rattle.memory.specs.Words.{numberOf}
+use Rattle.memory.specs.Words.{wordNumber}
 use Rattle.memory.proofs.windows.chr_window.Statement.{statement}
 use Rattle.memory.proofs.windows.chr_window.Tie as tie
 
 returns : tie.Need-returns
-unfolding numberOf windowPage
+unfolding wordNumber windowPage
 returns c = rw (eq-eqb _ _ (c .if1 .taken))
 
 first-start-requires : tie.Need-first-start-requires

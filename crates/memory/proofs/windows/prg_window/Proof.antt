@@ -3,7 +3,7 @@ use Prim.Native.Nat.{_-_}
 use borrow.Author.Needs.{needs}
 use borrow.Author.Tests.{eq-eqb}
 use Rattle.memory.specs.Windows.{windowPage}
-use Rattle.memory.specs.Words.{numberOf}
+use Rattle.memory.specs.Words.{wordNumber}
 use Rattle.memory.proofs.WindowLaws.{start-below, Filling, fill-first, fill-next, fill-last}
 use Rattle.memory.proofs.windows.prg_window.Statement.{statement}
 use Rattle.memory.proofs.windows.prg_window.Tie as tie
@@ -15,7 +15,7 @@ abbrev μ-loop : tie.MeasureT-loop
 μ-loop src len bank writable pages₀ at₀ i₀ pages at i = 8 - i
 
 returns : tie.Need-returns Inv-loop μ-loop
-unfolding numberOf windowPage
+unfolding wordNumber windowPage
 returns c = rw (eq-eqb _ _ (c .if1 .taken))
 
 first-start-requires : tie.Need-first-start-requires Inv-loop μ-loop

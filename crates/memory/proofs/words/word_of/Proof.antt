@@ -1,7 +1,7 @@
--- Each arm is the case of `numberOf` that the source names; a bool as a number is `flag`.
+-- Each arm is the case of `wordNumber` that the source names; a bool as a number is `flag`.
 use native.Mathlib.Omega.{arith}
 use borrow.Author.Needs.{needs}
-use Rattle.memory.specs.Words.{numberOf}
+use Rattle.memory.specs.Words.{wordNumber}
 use Rattle.memory.proofs.WordLaws.{bit-is, bit-small}
 use Rattle.memory.proofs.words.word_of.Statement.{statement}
 use Rattle.memory.proofs.words.word_of.Tie as tie
@@ -73,31 +73,31 @@ add-t27 : tie.Need-add-t27
 add-t27 c = omega (arith, bit-small (c .before .before .args .writable))
 
 returns : tie.Need-returns
-unfolding numberOf
+unfolding wordNumber
 returns c = rw (c .enum-told .given .1)
 
 returns-2 : tie.Need-returns-2
-unfolding numberOf
+unfolding wordNumber
 returns-2 c = rw (c .enum-told2 .given .1)
 
 returns-3 : tie.Need-returns-3
-unfolding numberOf
+unfolding wordNumber
 returns-3 c = rw (c .enum-told3 .given .1, bit-is)
 
 returns-4 : tie.Need-returns-4
-unfolding numberOf
+unfolding wordNumber
 returns-4 c = rw (c .before .enum-told4 .given .1, c .if1 .taken)
 
 returns-5 : tie.Need-returns-5
-unfolding numberOf
+unfolding wordNumber
 returns-5 c = rw (c .before .enum-told4 .given .1, c .if1 .left)
 
 returns-6 : tie.Need-returns-6
-unfolding numberOf
+unfolding wordNumber
 returns-6 c = rw (c .enum-told5 .given .1, bit-is)
 
 returns-7 : tie.Need-returns-7
-unfolding numberOf
+unfolding wordNumber
 returns-7 c = rw (c .enum-told6 .given .1, bit-is)
 
 pub word-of-spec : {M : Type 1} → statement M

@@ -3,13 +3,13 @@
 use mathlib.Core.Path.{sym}
 use native.Mathlib.Omega.{arith}
 use borrow.Author.Needs.{needs}
-use Rattle.trace.specs.Numbers.{within, over}
+use Rattle.trace.specs.Numbers.{limited, grouped}
 use Rattle.trace.proofs.NumberLaws.{no-group, padded-group, top-group, further-over}
 use Rattle.trace.proofs.numbers.second_at.Statement.{statement}
 use Rattle.trace.proofs.numbers.second_at.Tie as tie
 
 returns : tie.Need-returns
-unfolding within over
+unfolding limited grouped
 returns c = rw (no-group 1 _ _ (c .if1 .taken))
 
 shared-slice-read-wide : tie.Need-shared-slice-read-wide

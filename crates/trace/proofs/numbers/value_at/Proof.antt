@@ -2,13 +2,13 @@
 use mathlib.Core.Path.{sym}
 use native.Mathlib.Omega.{arith}
 use borrow.Author.Needs.{needs}
-use Rattle.trace.specs.Numbers.{within}
+use Rattle.trace.specs.Numbers.{limited}
 use Rattle.trace.proofs.NumberLaws.{no-group, only-group, further-group}
 use Rattle.trace.proofs.numbers.value_at.Statement.{statement}
 use Rattle.trace.proofs.numbers.value_at.Tie as tie
 
 returns : tie.Need-returns
-unfolding within
+unfolding limited
 returns c = rw (no-group 1 _ _ (c .if1 .taken))
 
 shared-slice-read-wide : tie.Need-shared-slice-read-wide

@@ -1,6 +1,6 @@
 -- What the load and the replay leave.
 use Rattle.transcript.proofs.Overs.{over}
-use Rattle.text.specs.Sheet.{written}
+use Rattle.text.specs.Sheet.{textWritten}
 use mathlib.Core.Path.{_∙_, ap}
 use borrow.Author.Needs.{needs}
 use Rattle.transcript.proofs.cartridge.print_over.Statement.{statement}
@@ -34,7 +34,7 @@ same-length-6 : tie.Need-same-length-6
 same-length-6 c = search needs
 
 returns : tie.Need-returns
-returns c = c .before .before .print .ensures ∙ ap (written _) (over _ _ _ _ _ (c .before .before .before .before .before .before .before .before .before .before .before .before .before .before .before .before .before .before .before .before .before .before .load .ensures) (c .before .before .before .before .before .before .before .before .before .before .before .before .before .before .before .replay .ensures))
+returns c = c .before .before .print .ensures ∙ ap (textWritten _) (over _ _ _ _ _ (c .before .before .before .before .before .before .before .before .before .before .before .before .before .before .before .before .before .before .before .before .before .before .load .ensures) (c .before .before .before .before .before .before .before .before .before .before .before .before .before .before .before .replay .ensures))
 
 pub print-over-spec : {M : Type 1} → statement M
 print-over-spec =

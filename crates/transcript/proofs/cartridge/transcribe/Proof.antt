@@ -1,6 +1,6 @@
 -- The two ROMs counted, then the trace over them.
 use Rattle.transcript.proofs.Overs.{counted}
-use Rattle.text.specs.Sheet.{written}
+use Rattle.text.specs.Sheet.{textWritten}
 use mathlib.Core.Path.{_∙_, ap}
 use borrow.Author.Needs.{needs}
 use Rattle.transcript.proofs.cartridge.transcribe.Statement.{statement}
@@ -43,7 +43,7 @@ same-length : tie.Need-same-length
 same-length c = search needs
 
 returns : tie.Need-returns
-returns c = c .before .before .before .before .before .before .before .print-over .ensures ∙ ap (written _) (counted _ _ _ (c .before .before .before .before .before .before .before .before .before .before .before .before .before .before .before .before .before .before .before .count-pages .ensures) (c .before .before .before .before .before .before .before .before .before .before .before .before .before .before .before .before .count-pages2 .ensures))
+returns c = c .before .before .before .before .before .before .before .print-over .ensures ∙ ap (textWritten _) (counted _ _ _ (c .before .before .before .before .before .before .before .before .before .before .before .before .before .before .before .before .before .before .before .count-pages .ensures) (c .before .before .before .before .before .before .before .before .before .before .before .before .before .before .before .before .count-pages2 .ensures))
 
 pub transcribe-spec : {M : Type 1} → statement M
 transcribe-spec =

@@ -2,7 +2,7 @@
 use Rattle.transcript.proofs.Printing.{Printing, begins, ends, unreadable, refused, goes}
 use Rattle.transcript.specs.Printed.{printedFrom}
 use Rattle.trace.proofs.RecordLaws.{record-advances}
-use Rattle.text.specs.Sheet.{sheet, written}
+use Rattle.text.specs.Sheet.{sheet, textWritten}
 use lib.ListN.{length}
 use borrow.Author.Needs.{needs}
 use native.Mathlib.Omega.{arith}
@@ -13,7 +13,7 @@ use Rattle.transcript.proofs.printed.print_records.Tie as tie
 
 abbrev Inv-loop : tie.InvT-loop
 Inv-loop out₀ trace log ending to₀ at₀ n₀ out to at n =
-    Printing trace log ending (written (sheet out₀ 0) (printedFrom (suc (length trace)) trace 0 0 log ending)) to at n out × (length out ≡ length out₀)
+    Printing trace log ending (textWritten (sheet out₀ 0) (printedFrom (suc (length trace)) trace 0 0 log ending)) to at n out × (length out ≡ length out₀)
 
 abbrev μ-loop : tie.MeasureT-loop
 μ-loop out₀ trace log ending to₀ at₀ n₀ out to at n = length trace - at

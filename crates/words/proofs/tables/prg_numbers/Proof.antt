@@ -3,13 +3,13 @@ use Prim.Native.Nat.{_-_}
 use mathlib.Core.Path.{refl}
 use borrow.Author.Needs.{needs}
 use Rattle.memory.specs.Words.{word}
-use Rattle.words.specs.Words.{numberIn}
+use Rattle.words.specs.Words.{pageNumber}
 use Rattle.words.proofs.MappedLaws.{Mapped, map-first, map-next, map-last}
 use Rattle.words.proofs.tables.prg_numbers.Statement.{statement}
 use Rattle.words.proofs.tables.prg_numbers.Tie as tie
 
 abbrev Inv-loop : tie.InvT-loop
-Inv-loop pages numbers₀ i₀ numbers i = Mapped numberIn pages numbers i
+Inv-loop pages numbers₀ i₀ numbers i = Mapped pageNumber pages numbers i
 
 abbrev μ-loop : tie.MeasureT-loop
 μ-loop pages numbers₀ i₀ numbers i = 64 - i

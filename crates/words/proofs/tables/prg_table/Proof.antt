@@ -3,7 +3,7 @@ use Prim.Native.Nat.{_-_}
 use mathlib.Core.Path.{refl}
 use borrow.Author.Needs.{needs}
 use Rattle.memory.specs.Words.{word}
-use Rattle.words.specs.Words.{numberIn}
+use Rattle.words.specs.Words.{pageNumber}
 use Rattle.words.proofs.MappedLaws.{Mapped, map-first, map-next, map-last}
 use Rattle.words.proofs.tables.prg_table.Statement.{statement}
 use Rattle.words.proofs.tables.prg_table.Tie as tie
