@@ -35,7 +35,7 @@ unfoldable pub prgValues : ℕ → List ℕ → List ℕ
 prgValues mode b =
     getD b 0 0 % 8
     ∷ pick (eqb mode 0)
-    (quarter (rom (getD b 4 0)) 0 ∷ quarter (rom (getD b 4 0)) 1 ∷ quarter (rom (getD b 4 0)) 2 ∷ quarter (rom (getD b 4 0)) 3 ∷ [])
+    (rom (getD b 4 0) / 4 * 4 ∷ quarter (rom (getD b 4 0)) 1 ∷ quarter (rom (getD b 4 0)) 2 ∷ quarter (rom (getD b 4 0)) 3 ∷ [])
     (pick (eqb mode 1)
     (pairFirst (getD b 2 0) ∷ pairSecond (getD b 2 0) ∷ pairFirst (rom (getD b 4 0)) ∷ pairSecond (rom (getD b 4 0)) ∷ [])
     (pick (eqb mode 2)
