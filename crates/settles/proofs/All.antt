@@ -1,27 +1,34 @@
--- All of them.
+-- Every contract: those that are one equation by the one law, found for each function of a crate at once, the others each by its own. Two crates
+-- are written out, so that a must-fail edit is refused with what differs: write another out so where a refused search does not name the function.
 use Rattle.settles.specs.Every.{EveryContract}
-use Rattle.settles.proofs.LeafLaws.{memory, answers, registers, banks, scanline, split, state, cpu, ppu}
-use Rattle.settles.proofs.EntryLaws.{board, board-ppu, views, trace, calls, text, player, transcript}
-use Rattle.settles.proofs.HandLaws.{by-hand}
+use Rattle.settles.proofs.Law.{settled}
+use Rattle.settles.proofs.Several.{stored, placed, written, arm-stored, counted, detector-put, region-put, tiles-put, clocked, made, moved}
 
 pub every-contract : EveryContract
 every-contract = record {
-  of-memory = memory;
-  of-answers = answers;
-  of-registers = registers;
-  of-banks = banks;
-  of-scanline = scanline;
-  of-split = split;
-  of-state = state;
-  of-cpu = cpu;
-  of-ppu = ppu;
-  of-board = board;
-  of-board-ppu = board-ppu;
-  of-views = views;
-  of-trace = trace;
-  of-calls = calls;
-  of-text = text;
-  of-player = player;
-  of-transcript = transcript;
-  by-hand = by-hand;
+  of-memory = search (settled, stored, placed);
+  of-answers = search settled;
+  of-registers = search settled;
+  of-banks = search settled;
+  of-scanline = search settled;
+  of-split = search settled;
+  of-state = search settled;
+  of-cpu = search (settled, written);
+  of-ppu = search settled;
+  of-board = search settled;
+  of-board-ppu = search settled;
+  of-views = record { cpu-view = λ κ a r r' e e'. settled; ppu-view = λ κ a r r' e e'. settled };
+  of-trace = search settled;
+  of-calls = search settled;
+  of-text = search settled;
+  of-logs = search settled;
+  of-arms = search (settled, arm-stored, counted);
+  of-player = search settled;
+  of-transcript = search settled;
+  of-words = search (settled, detector-put, region-put, tiles-put);
+  of-told = search settled;
+  of-host = search settled;
+  of-host-looks = search settled;
+  of-host-replay = record { replay = λ κ a r r' e e'. settled };
+  by-hand = search (settled, clocked, made, moved);
 }

@@ -1,5 +1,3 @@
 pub mod Law
-pub mod LeafLaws
-pub mod EntryLaws
-pub mod HandLaws
+pub mod Several
 pub mod All

@@ -1,41 +1,39 @@
--- Five functions whose contracts the prover offers by no name, since they are proved by hand: the lent clock and the trace reader. What their
--- `ensures` say is written again here by reading; nothing checks the copy.
+-- Four functions whose contracts the prover offers by no name, since they are proved by hand: the lent clock and the trace reader. Each contract
+-- is taken from the function's own clauses, which its theorem is about and which are its `ensures` as written.
 -- Assumes nothing.
-use Prim.Native.Nat.{ℕ}
-use mathlib.Core.List.{List}
-use mathlib.Core.Path.{_≡_}
-use denote.Ref.{RefT, now}
-use Rattle.answers.specs.declared.Answer.{Answer}
-use Rattle.scanline.specs.declared.record.ClockRecord.{ClockRecord}
-use Rattle.scanline.specs.Clock.{clockOutcome}
-use Rattle.trace.specs.declared.Found.{Found}
-use Rattle.trace.specs.Records.{recordAt}
+use mathlib.Core.Path.{_≡_, refl}
+use contract.Lifetimes.{Lfts}
+use contract.Monad.{fact}
+use denote.Ref.{now}
+use denote.Triple.Clauses.{Ended, Clauses, AtExit}
+use borrow.Fn.World.{World, ArgsD, ResD}
+use Rattle.scanline.proofs.record.clock_lent as scanline-clock-lent
+use Rattle.trace.proofs.reader.new as trace-new
+use Rattle.trace.proofs.reader.advanced as trace-advanced
+use Rattle.trace.proofs.reader.next_record as trace-next-record
 use Rattle.settles.specs.Settled.{Result, Settles, beside}
 
--- `scanline::record::clock_lent`: the record before, the answer, the record afterwards.
-abbrev pub clockLent : Unit {0} → ClockRecord → Answer → ClockRecord → Type 0
-clockLent κ before a after = (a ≡ clockOutcome before .answer) × (after ≡ clockOutcome before .«record»)
+-- A contract that is one plain fact, the same at every model of the logic: which fact that is, and that the clauses are it.
+pub record Plain (T : Ended) (written : (w : World) → Clauses (w .𝓤) T) : Type 2 where
+  pub Learnt : (κ : Lfts (T .signature .lifetimes)) → ArgsD (T .signature) κ → ResD (T .signature) κ → AtExit T κ → Type 0
+  pub is-it : (w : World) (κ : Lfts (T .signature .lifetimes)) (a : ArgsD (T .signature) κ) (g : written w κ a .ghost) (r : ResD (T .signature) κ) (e : AtExit T κ) → written w κ a .ensures g r e ≡ fact (w .𝓤) (Learnt κ a r e)
 
--- A reader is a lent trace, where it lies and its bytes, and a place: `trace::reader::new` and `advanced`.
-abbrev pub Reader : Type 0
-Reader = RefT (List ℕ) × ℕ
+-- `scanline::record::clock_lent`.
+abbrev pub clock-lent : Plain scanline-clock-lent.ended (λ w. scanline-clock-lent.clauses (w .𝓤) (w .H) (w .𝓖 .A) (w .𝓜 .mem) (w .𝓡 .run))
+clock-lent = record { Learnt = λ κ a r e. _; is-it = λ w κ a g r e. refl }
 
-abbrev pub new : Unit {0} → RefT (List ℕ) → Reader → Unit {0} → Type 0
-new κ trace r e = (r .0 ≡ trace) × (r .1 ≡ 0)
+-- `trace::reader::new`, `advanced` and `next_record`.
+abbrev pub new : Plain trace-new.ended (λ w. trace-new.clauses (w .𝓤) (w .H) (w .𝓖 .A) (w .𝓜 .mem) (w .𝓡 .run))
+new = record { Learnt = λ κ a r e. _; is-it = λ w κ a g r e. refl }
 
-abbrev pub advanced : Unit {0} → (Reader × ℕ) → Reader → Unit {0} → Type 0
-advanced κ a q e = (q .0 ≡ a .0 .0) × (q .1 ≡ a .1)
+abbrev pub advanced : Plain trace-advanced.ended (λ w. trace-advanced.clauses (w .𝓤) (w .H) (w .𝓖 .A) (w .𝓜 .mem) (w .𝓡 .run))
+advanced = record { Learnt = λ κ a r e. _; is-it = λ w κ a g r e. refl }
 
--- `trace::reader::next_record` and `first_record`.
-abbrev pub nextRecord : Unit {0} → Reader → Found → Unit {0} → Type 0
-nextRecord κ r f e = f ≡ recordAt (now (r .0)) (r .1)
-
-abbrev pub firstRecord : Unit {0} → RefT (List ℕ) → Found → Unit {0} → Type 0
-firstRecord κ trace f e = f ≡ recordAt (now trace) 0
+abbrev pub next-record : Plain trace-next-record.ended (λ w. trace-next-record.clauses (w .𝓤) (w .H) (w .𝓖 .A) (w .𝓜 .mem) (w .𝓡 .run))
+next-record = record { Learnt = λ κ a r e. _; is-it = λ w κ a g r e. refl }
 
 pub record ByHand : Type 0 where
-  pub clock-lent : Settles clockLent (λ κ before a after. beside a after)
-  pub reader-new : Result new
-  pub reader-advanced : Result advanced
-  pub reader-next-record : Result nextRecord
-  pub reader-first-record : Result firstRecord
+  pub lent-clock : Settles (clock-lent .Learnt) (λ κ a r e. beside r (now (e .0)))
+  pub reader-new : Result (new .Learnt)
+  pub reader-advanced : Result (advanced .Learnt)
+  pub reader-next-record : Result (next-record .Learnt)

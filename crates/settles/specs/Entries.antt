@@ -3,7 +3,6 @@
 -- Assumes nothing.
 use mathlib.Core.List.{[]}
 use denote.Ref.{now}
-use Rattle.memory.specs.Bytes.{memOf}
 use Rattle.board.specs.Outcomes.{afterOf}
 use Rattle.player.specs.Replay.{leftOf}
 use Rattle.text.specs.Sheet.{sheet}
@@ -33,6 +32,7 @@ use Rattle.trace.proofs.too_long.Reads as trace-too-long
 use Rattle.trace.proofs.numbers.address_at.Reads as trace-address-at
 use Rattle.trace.proofs.numbers.value_at.Reads as trace-value-at
 use Rattle.trace.proofs.records.record_at.Reads as trace-record-at
+use Rattle.trace.proofs.reader.first_record.Reads as trace-first-record
 use Rattle.calls.proofs.call_on.Reads as calls-call-on
 use Rattle.text.proofs.lines.logged_line.Reads as text-logged-line
 use Rattle.text.proofs.lines.refused_line.Reads as text-refused-line
@@ -43,25 +43,25 @@ use Rattle.text.proofs.words.put.Reads as text-put
 use Rattle.text.proofs.words.decimal.Reads as text-decimal
 use Rattle.text.proofs.words.number.Reads as text-number
 use Rattle.text.proofs.words.letter.Reads as text-letter
-use Rattle.arms.proofs.cpu_side.read.Reads as player-read
-use Rattle.arms.proofs.cpu_side.store.Reads as player-store
-use Rattle.arms.proofs.cpu_side.exram_word.Reads as player-exram-word
+use Rattle.logs.proofs.log_record.Reads as logs-log-record
+use Rattle.arms.proofs.cpu_side.read.Reads as arms-read
+use Rattle.arms.proofs.cpu_side.store.Reads as arms-store
+use Rattle.arms.proofs.cpu_side.exram_word.Reads as arms-exram-word
+use Rattle.arms.proofs.ppu_side.count_fetch.Reads as arms-count-fetch
+use Rattle.arms.proofs.ppu_side.counted_answer.Reads as arms-counted-answer
+use Rattle.arms.proofs.ppu_side.chosen_at.Reads as arms-chosen-at
+use Rattle.arms.proofs.ppu_side.other_answer.Reads as arms-other-answer
 use Rattle.player.proofs.replay.Reads as player-replay
-use Rattle.logs.proofs.log_record.Reads as player-log-record
 use Rattle.player.proofs.plays.play.Reads as player-play
-use Rattle.arms.proofs.ppu_side.count_fetch.Reads as player-count-fetch
-use Rattle.arms.proofs.ppu_side.counted_answer.Reads as player-counted-answer
-use Rattle.arms.proofs.ppu_side.chosen_at.Reads as player-chosen-at
-use Rattle.arms.proofs.ppu_side.other_answer.Reads as player-other-answer
 use Rattle.transcript.proofs.printed.print.Reads as transcript-print
 use Rattle.transcript.proofs.cartridge.transcribe.Reads as transcript-transcribe
-use Rattle.settles.specs.Settled.{Result, Settles, beside}
+use Rattle.settles.specs.Settled.{Result, Settles, memLeft}
 
 pub record Board : Type 0 where
   pub clock : Result board-clock.Learnt
   pub cpu-read : Result board-cpu-read.Learnt
   pub cpu-peek : Result board-cpu-peek.Learnt
-  pub cpu-write : Settles board-cpu-write.Learnt (λ κ a r e. afterOf r (memOf (now (a .1 .0)) (now (e .1 .1 .0)) (now (e .1 .1 .1 .0)) (now (e .1 .1 .1 .1 .0)) (now (e .1 .1 .1 .1 .1 .0))))
+  pub cpu-write : Settles board-cpu-write.Learnt (λ κ a r e. afterOf r (memLeft (now (a .1 .0)) (e .1 .1)))
   pub refuse : Result board-refuse.Learnt
   pub load : Result board-load.Learnt
   pub status-told : Result board-status-told.Learnt
@@ -78,7 +78,7 @@ pub record BoardPpu : Type 0 where
   pub page-at : Result board-ppu-page-at.Learnt
   pub ppu-peek : Result board-ppu-ppu-peek.Learnt
   pub sprite-peek : Result board-ppu-sprite-peek.Learnt
-  pub ppu-write : Settles board-ppu-ppu-write.Learnt (λ κ a r e. afterOf r (memOf (now (a .1 .0)) (now (e .1 .1 .0)) (now (e .1 .1 .1 .0)) (now (e .1 .1 .1 .1 .0)) (now (e .1 .1 .1 .1 .1 .0))))
+  pub ppu-write : Settles board-ppu-ppu-write.Learnt (λ κ a r e. afterOf r (memLeft (now (a .1 .0)) (e .1 .1)))
 
 pub record Views : Type 0 where
   pub cpu-view : Settles views-cpu-view.Learnt (λ κ a r e. now r)
@@ -90,9 +90,10 @@ pub record Trace : Type 0 where
   pub address-at : Result trace-address-at.Learnt
   pub value-at : Result trace-value-at.Learnt
   pub record-at : Result trace-record-at.Learnt
+  pub first-record : Result trace-first-record.Learnt
 
 pub record Calls : Type 0 where
-  pub call-on : Settles calls-call-on.Learnt (λ κ a r e. afterOf r (memOf (now (a .1 .0)) (now (e .1 .1 .0)) (now (e .1 .1 .1 .0)) (now (e .1 .1 .1 .1 .0)) (now (e .1 .1 .1 .1 .1 .0))))
+  pub call-on : Settles calls-call-on.Learnt (λ κ a r e. afterOf r (memLeft (now (a .1 .0)) (e .1 .1)))
 
 pub record Text : Type 0 where
   pub logged-line : Settles text-logged-line.Learnt (λ κ a r e. sheet (now (e .0)) r)
@@ -105,17 +106,21 @@ pub record Text : Type 0 where
   pub number : Settles text-number.Learnt (λ κ a r e. sheet (now (e .0)) r)
   pub letter : Settles text-letter.Learnt (λ κ a r e. sheet (now (e .0)) r)
 
+pub record Logs : Type 0 where
+  pub log-record : Settles logs-log-record.Learnt (λ κ a r e. now (e .0))
+
+pub record Arms : Type 0 where
+  pub read : Result arms-read.Learnt
+  pub store : Settles arms-store.Learnt (λ κ a r e. memLeft [] e)
+  pub exram-word : Result arms-exram-word.Learnt
+  pub count-fetch : Result arms-count-fetch.Learnt
+  pub counted-answer : Result arms-counted-answer.Learnt
+  pub chosen-at : Result arms-chosen-at.Learnt
+  pub other-answer : Result arms-other-answer.Learnt
+
 pub record Player : Type 0 where
-  pub read : Result player-read.Learnt
-  pub store : Settles player-store.Learnt (λ κ a r e. memOf [] (now (e .0)) (now (e .1 .0)) (now (e .1 .1 .0)) (now (e .1 .1 .1 .0)))
-  pub exram-word : Result player-exram-word.Learnt
-  pub replay : Settles player-replay.Learnt (λ κ a r e. leftOf r (memOf (now (a .1 .1 .0)) (now (e .1 .1 .1 .0)) (now (e .1 .1 .1 .1 .0)) (now (e .1 .1 .1 .1 .1 .0)) (now (e .1 .1 .1 .1 .1 .1 .0))) (now (e .1 .1 .1 .1 .1 .1 .1 .0)))
-  pub log-record : Settles player-log-record.Learnt (λ κ a r e. now (e .0))
-  pub play : Settles player-play.Learnt (λ κ a r e. leftOf r (memOf (now (a .1 .1 .0)) (now (e .1 .1 .1 .0)) (now (e .1 .1 .1 .1 .0)) (now (e .1 .1 .1 .1 .1 .0)) (now (e .1 .1 .1 .1 .1 .1 .0))) (now (e .1 .1 .1 .1 .1 .1 .1 .0)))
-  pub count-fetch : Settles player-count-fetch.Learnt (λ κ a r e. beside (r .irq) (beside (r .ppu) (r .vsplit)))
-  pub counted-answer : Result player-counted-answer.Learnt
-  pub chosen-at : Result player-chosen-at.Learnt
-  pub other-answer : Result player-other-answer.Learnt
+  pub replay : Settles player-replay.Learnt (λ κ a r e. leftOf r (memLeft (now (a .1 .1 .0)) (e .1 .1 .1)) (now (e .1 .1 .1 .1 .1 .1 .1 .0)))
+  pub play : Settles player-play.Learnt (λ κ a r e. leftOf r (memLeft (now (a .1 .1 .0)) (e .1 .1 .1)) (now (e .1 .1 .1 .1 .1 .1 .1 .0)))
 
 pub record Transcript : Type 0 where
   pub print : Settles transcript-print.Learnt (λ κ a r e. sheet (now (e .0)) r)

@@ -1,7 +1,9 @@
--- Every public function of the libraries up to `transcript`, crate by crate; those of the host's crates are not here. The programs' own functions print, and have no contract: docs/DECISIONS.md, "Forms".
+-- Every public function of the libraries, crate by crate. `tools/settled` says which function has no line here. What has no code (`promises` and
+-- the like) has nothing to settle. The programs' own functions print, and have no contract: docs/DECISIONS.md, "Forms".
 -- Assumes nothing.
 use Rattle.settles.specs.Leaves.{Memory, Answers, Registers, Banks, Scanline, Split, State, Cpu, Ppu}
-use Rattle.settles.specs.Entries.{Board, BoardPpu, Views, Trace, Calls, Text, Player, Transcript}
+use Rattle.settles.specs.Entries.{Board, BoardPpu, Views, Trace, Calls, Text, Logs, Arms, Player, Transcript}
+use Rattle.settles.specs.Hosts.{Words, Told, Host, HostLooks, HostReplay}
 use Rattle.settles.specs.ByHand.{ByHand}
 
 pub record EveryContract : Type 0 where
@@ -20,6 +22,13 @@ pub record EveryContract : Type 0 where
   pub of-trace : Trace
   pub of-calls : Calls
   pub of-text : Text
+  pub of-logs : Logs
+  pub of-arms : Arms
   pub of-player : Player
   pub of-transcript : Transcript
+  pub of-words : Words
+  pub of-told : Told
+  pub of-host : Host
+  pub of-host-looks : HostLooks
+  pub of-host-replay : HostReplay
   pub by-hand : ByHand

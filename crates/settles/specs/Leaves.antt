@@ -2,7 +2,6 @@
 -- Assumes nothing.
 use mathlib.Core.List.{[]}
 use denote.Ref.{now}
-use Rattle.memory.specs.Bytes.{memOf}
 use Rattle.memory.proofs.bytes.byte.Reads as memory-byte
 use Rattle.memory.proofs.bytes.put.Reads as memory-put
 use Rattle.memory.proofs.bytes.peek.Reads as memory-peek
@@ -108,13 +107,13 @@ use Rattle.ppu.proofs.served.ex_offset.Reads as ppu-ex-offset
 use Rattle.ppu.proofs.served.counted_served.Reads as ppu-counted-served
 use Rattle.ppu.proofs.served.pattern_served.Reads as ppu-pattern-served
 use Rattle.ppu.proofs.served.sprite_byte.Reads as ppu-sprite-byte
-use Rattle.settles.specs.Settled.{Result, Settles, beside}
+use Rattle.settles.specs.Settled.{Result, Settles, beside, memLeft}
 
 pub record Memory : Type 0 where
   pub byte : Result memory-byte.Learnt
   pub put : Settles memory-put.Learnt (λ κ a r e. now (e .0))
   pub peek : Result memory-peek.Learnt
-  pub store : Settles memory-store.Learnt (λ κ a r e. memOf [] (now (e .0)) (now (e .1 .0)) (now (e .1 .1 .0)) (now (e .1 .1 .1 .0)))
+  pub store : Settles memory-store.Learnt (λ κ a r e. memLeft [] e)
   pub prg-table-ok : Result memory-prg-table-ok.Learnt
   pub chr-table-ok : Result memory-chr-table-ok.Learnt
   pub prg-place : Result memory-prg-place.Learnt
@@ -221,7 +220,7 @@ pub record Cpu : Type 0 where
   pub register-written : Result cpu-register-written.Learnt
   pub latch : Settles cpu-latch.Learnt (λ κ a r e. now (e .0))
   pub prg-word-at : Result cpu-prg-word-at.Learnt
-  pub cpu-write : Settles cpu-cpu-write.Learnt (λ κ a r e. beside r (memOf [] (now (e .1 .0)) (now (e .1 .1 .0)) (now (e .1 .1 .1 .0)) (now (e .1 .1 .1 .1 .0))))
+  pub cpu-write : Settles cpu-cpu-write.Learnt (λ κ a r e. beside r (memLeft [] (e .1)))
   pub audio-write : Result cpu-audio-write.Learnt
 
 pub record Ppu : Type 0 where

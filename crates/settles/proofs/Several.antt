@@ -1,0 +1,47 @@
+-- The contracts that are more than one equation, or an equation for every PRG-ROM, each by the one law.
+use mathlib.Core.List.{[]}
+use denote.Ref.{now}
+use Rattle.memory.proofs.bytes.store.Reads as memory-store
+use Rattle.memory.proofs.tables.prg_place.Reads as memory-prg-place
+use Rattle.cpu.proofs.writes.cpu_write.Reads as cpu-write
+use Rattle.arms.proofs.cpu_side.store.Reads as arms-store
+use Rattle.arms.proofs.ppu_side.count_fetch.Reads as arms-count-fetch
+use Rattle.words.proofs.groups.put_detector.Reads as words-put-detector
+use Rattle.words.proofs.groups.put_region.Reads as words-put-region
+use Rattle.words.proofs.groups.put_tiles.Reads as words-put-tiles
+use Rattle.settles.specs.Settled.{Result, Settles, beside, memLeft}
+use Rattle.settles.specs.ByHand.{clock-lent, new, advanced}
+use Rattle.settles.proofs.Law.{settled, both}
+
+pub stored : Settles memory-store.Learnt (λ κ a r e. memLeft [] e)
+stored κ a r r' e e' p q = settled (p []) (q [])
+
+pub placed : Result memory-prg-place.Learnt
+placed κ a r r' e e' p q = settled (p .0) (q .0)
+
+pub written : Settles cpu-write.Learnt (λ κ a r e. beside r (memLeft [] (e .1)))
+written κ a r r' e e' p q = both (settled (p .0) (q .0)) (settled (p .1 []) (q .1 []))
+
+pub arm-stored : Settles arms-store.Learnt (λ κ a r e. memLeft [] e)
+arm-stored κ a r r' e e' p q = settled (p []) (q [])
+
+pub counted : Result arms-count-fetch.Learnt
+counted κ a r r' e e' p q = λ i. record { irq = settled (p .0) (q .0) i; ppu = settled (p .1 .0) (q .1 .0) i; vsplit = settled (p .1 .1) (q .1 .1) i }
+
+pub detector-put : Settles words-put-detector.Learnt (λ κ a r e. beside (now (e .1 .0)) (now (e .1 .1 .0)))
+detector-put κ a r r' e e' p q = both (settled (p .0) (q .0)) (settled (p .1) (q .1))
+
+pub region-put : Settles words-put-region.Learnt (λ κ a r e. beside (now (e .1 .0)) (now (e .1 .1 .0)))
+region-put κ a r r' e e' p q = both (settled (p .0) (q .0)) (settled (p .1) (q .1))
+
+pub tiles-put : Settles words-put-tiles.Learnt (λ κ a r e. beside (now (e .1 .0)) (now (e .1 .1 .0)))
+tiles-put κ a r r' e e' p q = both (settled (p .0) (q .0)) (settled (p .1) (q .1))
+
+pub clocked : Settles (clock-lent .Learnt) (λ κ a r e. beside r (now (e .0)))
+clocked κ a r r' e e' p q = both (settled (p .0) (q .0)) (settled (p .1) (q .1))
+
+pub made : Result (new .Learnt)
+made κ a r r' e e' p q = λ i. record { trace = settled (p .0) (q .0) i; at = settled (p .1) (q .1) i }
+
+pub moved : Result (advanced .Learnt)
+moved κ a r r' e e' p q = λ i. record { trace = settled (p .0) (q .0) i; at = settled (p .1) (q .1) i }
