@@ -3,9 +3,9 @@
 use Prim.Native.Nat.{ℕ, _+_, _-_, _*_, _/_, _%_}
 use mathlib.Core.Bool.{Bool, _||_, not, _&&_}
 use mathlib.Core.List.{List}
-use lib.Bits.{bitOr}
 use lib.Dec.{eqb}
 use lib.ListN.{getD}
+use Rattle.memory.specs.Bits.{_OR_}
 use Rattle.memory.specs.declared.PageWord.{PageWord}
 use Rattle.memory.specs.declared.Src.the-variants.{Chr}
 use Rattle.memory.specs.Words.{pick}
@@ -29,7 +29,8 @@ setStart bg = pick bg 8 0
 -- "Page = ((bank OR hi) << shift) + place in window"
 unfoldable pub chrNumber : Regs → List ℕ → Bool → ℕ → ℕ
 chrNumber g b bg k =
-    bitOr (getD b (setStart bg + windowRegister (windowPages (g .«chr_mode»)) k) 0) (g .«chr_hi») * windowPages (g .«chr_mode») + k % windowPages (g .«chr_mode»)
+    let n = windowPages (g .«chr_mode») in
+    (getD b (setStart bg + windowRegister n k) 0 OR g .«chr_hi») * n + k % n
 
 -- The table with the eight pattern pages mapped.
 unfoldable pub chrMapped : ℕ → Bool → Regs → List ℕ → Bool → List PageWord → List PageWord

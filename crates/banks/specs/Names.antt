@@ -12,7 +12,8 @@ use Rattle.banks.specs.Placed.{placed}
 unfoldable pub selector : ℕ → ℕ → ℕ
 selector n i = n / 4 ^ (i % 4) % 4
 
--- 0 and 1 are CIRAM's two pages, 2 is ExRAM, 3 is Fill, as in the Rust's `update_nametables`; what can be written is marked so.
+-- 0 and 1 are CIRAM's two pages, 2 is ExRAM, 3 is Fill, as in the Rust's `NametableMapping::set` and `update_nametables`; CIRAM and ExRAM are marked
+-- writable, as in its `Memory::is_writable`.
 unfoldable pub namePage : ℕ → Bool → PageWord
 namePage s asName =
     pick (eqb s 0) (wordOf (page CiRam 0 true))

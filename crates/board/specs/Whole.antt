@@ -1,13 +1,14 @@
 -- Calls on the state alone: they ask only for its ranges (refusal 5).
-use Prim.Native.Nat.{ℕ, _/_, _%_}
+use Prim.Native.Nat.{ℕ}
 use mathlib.Core.Bool.{Bool, not, _&&_}
 use lib.Dec.{eqb}
+use Rattle.memory.specs.Bits.{bitSet}
 use Rattle.memory.specs.Words.{pick}
 use Rattle.answers.specs.declared.Answer.the-variants.{Nothing}
 use Rattle.answers.specs.declared.Refusal.the-variants.{State as StateBroken}
 use Rattle.registers.specs.declared.Regs.{Regs}
 use Rattle.scanline.specs.declared.Detector.{Detector}
-use Rattle.scanline.specs.Steps.{interruptUp, clocked, broken}
+use Rattle.scanline.specs.Steps.{interruptUp, clocked, dark, broken}
 use Rattle.state.specs.declared.PpuStatus.{PpuStatus}
 use Rattle.state.specs.declared.State.{State}
 use Rattle.state.specs.Ranges.{inRange}
@@ -38,16 +39,14 @@ interruptCall s = pick (not (inRange s)) (NotTold StateBroken) (pick (interruptU
 unfoldable pub clockCall : State → Outcome
 clockCall s = pick (not (inRange s)) (refused s StateBroken) (outcome Nothing (withIrq s (clocked (s .irq))))
 
--- $2000, bit 5: sprites of 8x16. $2001, bits 3 and 4: rendering; "A break is a PPU register write to $2001 with bits 3 and 4 clear".
-abbrev pub dark : ℕ → Bool
-dark v = eqb (v / 8 % 4) 0
-
+-- The Rust's `ppu_write`: $2000, bit 5: sprites of 8x16; $2001, bits 3 and 4: rendering.
 unfoldable pub statusTold : PpuStatus → ℕ → ℕ → PpuStatus
 statusTold p a v =
-    pick (eqb a 0x2000) (withSprite8x16 p (eqb (v / 32 % 2) 1))
+    pick (eqb a 0x2000) (withSprite8x16 p (bitSet v 5))
     (pick (eqb a 0x2001) (withRendering p (not (dark v)))
     p)
 
+-- "A break is a PPU register write to $2001 with bits 3 and 4 clear".
 unfoldable pub detectorTold : Detector → ℕ → ℕ → Detector
 detectorTold d a v = pick (eqb a 0x2001 && dark v) (broken d) d
 

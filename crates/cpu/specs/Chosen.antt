@@ -18,7 +18,8 @@ unfoldable pub chosen : PpuStatus → Bool → PpuStatus
 chosen p framed =
     withBgSet (withBgWritten p (lastToBackground p)) (background (p .sprite8x16) (spriteFetch (p .«tile_number»)) framed (lastToBackground p))
 
--- A CPU write: to the sprites' registers $5120-$5127, to the background's $5128-$512B, or to $5101, it chooses; no other does.
+-- A CPU write: to the sprites' registers $5120-$5127, to the background's $5128-$512B, or to $5101, it chooses; no other
+-- does (the Rust's `write_register`; module 5: a $5130 write "doesn't choose again").
 unfoldable pub ppuAfter : PpuStatus → Bool → ℕ → PpuStatus
 ppuAfter p framed a =
     pick (eqb a 0x5101) (chosen p framed)

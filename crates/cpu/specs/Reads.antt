@@ -54,7 +54,8 @@ registerRead g v d prg chr a page =
     (pick (eqb a 0x5206) (Register (g .multiplicand * g .multiplier / 256))
     page)))))))))))))))
 
--- Module 9: "The $5204 peek clears nothing": a read does. "a CPU read of $FFFA or $FFFB" is a break.
+-- Module 9: "The $5204 peek clears nothing": a read does. "Fetches, runs, breaks": "a CPU read of $FFFA or $FFFB" is a break; by demand 3 it clears
+-- the flag too.
 unfoldable pub irqRead : Detector → ℕ → Detector
 irqRead d a =
     pick (eqb a 0x5204) (statusRead d)

@@ -7,6 +7,7 @@ use mathlib.Core.List.{[], _∷_}
 use lib.Dec.{eqb}
 use Rattle.memory.specs.Words.{pick}
 use Rattle.memory.proofs.Tests.{split}
+use Rattle.scanline.specs.Steps.{dark}
 use Rattle.scanline.specs.declared.Detector.{Detector}
 use Rattle.scanline.specs.Fetches.{countedAt}
 use Rattle.scanline.specs.Tiles.{tilesOk}
@@ -32,7 +33,7 @@ module _ (w : Watched) where
       split (eqb a 0x5203)
       (λ t. rw t (ranges-kept .target v (w .detector) r))
       (λ t. rw t (split (eqb a 0x5204) (λ u. rw u (ranges-kept .enabled v (w .detector) r)) (λ u. rw u r)))
-  detector (ppuWrite a v) p r = split (eqb a 0x2001 && eqb (v / 8 % 4) 0) (λ t. rw t (ranges-kept .darkened (w .detector) r)) (λ t. rw t r)
+  detector (ppuWrite a v) p r = split (eqb a 0x2001 && dark v) (λ t. rw t (ranges-kept .darkened (w .detector) r)) (λ t. rw t r)
   detector other p r = r
 
   tiles : (e : Event) → eventRefused w e ≡ false → tilesOk (w .tiles) ≡ true → tilesOk (tilesBy w e) ≡ true

@@ -14,27 +14,27 @@ use Rattle.scanline.specs.Clock.{tick}
 use Rattle.scanline.specs.Steps.{again, matchesAfter, isLine, meets, seenAt}
 use Rattle.lines.specs.Events.{Event, isClock, fetches, reads, writes, darkens, address, value, counts, vectors, clears}
 use Rattle.lines.specs.Told.{History, idle, row, breaks, recent, alike, lineAt, lines, inFrame, lastWrite, hadBit7, newLines, calm, isValue, hits, flagTold, up, TestsAreSentences}
-use Rattle.lines.specs.Machine.{step, eventRefused, tilesBy, watched, allowed}
+use Rattle.lines.specs.Machine.{step, eventRefused, tilesBy, watched, allTaken}
 use Rattle.lines.specs.Promise.{LedTo}
 use Rattle.lines.specs.Promise.Played.{at-load, taken}
 use Rattle.lines.specs.Cases.{after, toldStatus, right, Cases, waitingFrom, between, last, Worked}
 use Rattle.lines.proofs.Flag.{flag-iff, up-iff}
 
 pub cases : Cases
-unfolding nextTile tileRefused lineRefused counterRefused after toldStatus right all step eventRefused tilesBy watched allowed tick again matchesAfter isLine meets seenAt isClock fetches reads writes darkens address value counts vectors clears idle row breaks recent alike lineAt lines inFrame lastWrite hadBit7 isValue hits flagTold up
+unfolding nextTile tileRefused lineRefused counterRefused after toldStatus right all step eventRefused tilesBy watched allTaken tick again matchesAfter isLine meets seenAt isClock fetches reads writes darkens address value counts vectors clears idle row breaks recent alike lineAt lines inFrame lastWrite hadBit7 isValue hits flagTold up
 cases = tt
 
 pub tests-are-sentences : TestsAreSentences
 tests-are-sentences h = (flag-iff h, up-iff h)
 
 -- calls that are all taken reach what they leave
-pub reached : (h : History) → allowed h ≡ true → LedTo h (watched h)
-unfolding allowed watched
+pub reached : (h : History) → allTaken h ≡ true → LedTo h (watched h)
+unfolding allTaken watched
 reached [] p = at-load
-reached (e ∷ h) p = taken e (reached h (and-left (allowed h) (not (eventRefused (watched h) e)) p)) (record { allowed = not-true (eventRefused (watched h) e) (and-right (allowed h) (not (eventRefused (watched h) e)) p); moved = refl })
+reached (e ∷ h) p = taken e (reached h (and-left (allTaken h) (not (eventRefused (watched h) e)) p)) (record { allowed = not-true (eventRefused (watched h) e) (and-right (allTaken h) (not (eventRefused (watched h) e)) p); moved = refl })
 
 pub worked : Worked
-unfolding nextTile tileRefused lineRefused counterRefused step eventRefused tilesBy watched allowed tick again matchesAfter isLine meets seenAt isClock fetches reads writes darkens address value counts vectors clears idle row breaks recent alike lineAt lines inFrame lastWrite hadBit7 isValue hits flagTold calm newLines
+unfolding nextTile tileRefused lineRefused counterRefused step eventRefused tilesBy watched allTaken tick again matchesAfter isLine meets seenAt isClock fetches reads writes darkens address value counts vectors clears idle row breaks recent alike lineAt lines inFrame lastWrite hadBit7 isValue hits flagTold calm newLines
 worked = record {
   waiting = record { at-line = refl; clear = λ f. false≢true (flag-iff waitingFrom .1 f); enabled = refl; target = refl; ahead = omega arith; byte = omega arith };
   undisturbed = refl;

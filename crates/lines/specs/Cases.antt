@@ -2,7 +2,7 @@
 -- `scanline` and by the history alone. From 01, "Examples at the edges", and from runs of the Rust.
 -- Assumes nothing.
 use Prim.Native.Nat.{ℕ, _+_}
-use mathlib.Core.Bool.{Bool, true, false, not, _&&_}
+use mathlib.Core.Bool.{Bool, true, false, not}
 use mathlib.Core.List.{List, [], _∷_, _++_}
 use mathlib.Core.Path.{_≡_}
 use lib.Dec.{eqb, T}
@@ -13,7 +13,7 @@ use Rattle.scanline.specs.Steps.{statusOf, interruptUp}
 use Rattle.lines.specs.Events.{Event}
 use Rattle.lines.specs.Events.Event.{clock, fetch, cpuRead, cpuWrite, ppuWrite}
 use Rattle.lines.specs.Told.{History, lineAt, inFrame, Waiting, newLines, calm, flagTold, up}
-use Rattle.lines.specs.Machine.{watched, allowed}
+use Rattle.lines.specs.Machine.{watched, allTaken}
 use Rattle.lines.specs.Promise.{LedTo}
 
 -- calls in the order in which they were made, after h
@@ -127,7 +127,7 @@ agree a b = pick a b (not b)
 unfoldable pub right : Case → Bool
 right c =
     let h = after [] (c .calls) in
-    conj (allowed h
+    conj (allTaken h
     ∷ eqb (statusOf (watched h .detector)) (c .reads)
     ∷ eqb (toldStatus h) (c .reads)
     ∷ agree (interruptUp (watched h .detector)) (c .irq)

@@ -1,8 +1,10 @@
--- The calls, as far as the scanline detector can tell one from another, and the questions that demand 3 asks of one call.
+-- The calls, as far as the scanline detector can tell one from another, and the questions that demand 3 asks of one call. Words in quotes are 01's, "Fetches, runs,
+-- breaks"; those of `clears` are demand 3's.
 -- Assumes nothing.
-use Prim.Native.Nat.{ℕ, _/_, _%_}
+use Prim.Native.Nat.{ℕ}
 use mathlib.Core.Bool.{Bool, true, false, _&&_, _||_}
 use lib.Dec.{leb, eqb}
+use Rattle.scanline.specs.Steps.{dark}
 
 -- A clock; a PPU fetch at an address; a CPU read at an address; a CPU write of a value; a PPU register write of a value; any other call:
 -- a peek, a reset, a PPU memory write, a page view, mirroring or interrupt asked.
@@ -55,7 +57,7 @@ darkens clock = false
 darkens (fetch a) = false
 darkens (cpuRead a) = false
 darkens (cpuWrite a v) = false
-darkens (ppuWrite a v) = eqb a 0x2001 && eqb (v / 8 % 4) 0
+darkens (ppuWrite a v) = eqb a 0x2001 && dark v
 darkens other = false
 
 -- the call's address, and the value that it writes; 0 where it has none

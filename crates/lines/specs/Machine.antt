@@ -1,6 +1,6 @@
 -- The detector over a history: what each call makes of it, by the definitions of crate `scanline`, and which calls are taken.
 -- Assumes nothing.
-use Prim.Native.Nat.{ℕ, _/_, _%_}
+use Prim.Native.Nat.{ℕ}
 use mathlib.Core.Path.{_≡_}
 use mathlib.Core.Bool.{Bool, true, false, not, _&&_, _||_}
 use mathlib.Core.List.{[], _∷_}
@@ -10,7 +10,7 @@ use Rattle.memory.specs.Words.{pick}
 use Rattle.scanline.specs.declared.Detector.{Detector}
 use Rattle.scanline.specs.Fetches.{countedAt}
 use Rattle.scanline.specs.Tiles.{raisedBy, leftAfter}
-use Rattle.scanline.specs.Steps.{detectorAtLoad, matchesAfter, meets, seenAt, clocked, broken, vectorRead, statusRead, targeted, enabledBy}
+use Rattle.scanline.specs.Steps.{detectorAtLoad, matchesAfter, meets, seenAt, clocked, dark, broken, vectorRead, statusRead, targeted, enabledBy}
 use Rattle.scanline.specs.Ranges.{counterRefused}
 use Rattle.lines.specs.Events.{Event}
 use Rattle.lines.specs.Events.Event.{clock, fetch, cpuRead, cpuWrite, ppuWrite, other}
@@ -21,7 +21,7 @@ step d clock = clocked d
 step d (fetch a) = pick (countedAt a) (seenAt d a) d
 step d (cpuRead a) = pick (eqb a 0xFFFA || eqb a 0xFFFB) (vectorRead d) (pick (eqb a 0x5204) (statusRead d) d)
 step d (cpuWrite a v) = pick (eqb a 0x5203) (targeted d v) (pick (eqb a 0x5204) (enabledBy d v) d)
-step d (ppuWrite a v) = pick (eqb a 0x2001 && eqb (v / 8 % 4) 0) (broken d) d
+step d (ppuWrite a v) = pick (eqb a 0x2001 && dark v) (broken d) d
 step d other = d
 
 -- after all calls of a history, taken or not
@@ -63,12 +63,12 @@ unfoldable pub watched : History → Watched
 watched [] = atLoad
 watched (e ∷ h) = record { detector = step (watched h .detector) e; tiles = tilesBy (watched h) e }
 
-unfoldable pub allowed : History → Bool
-allowed [] = true
-allowed (e ∷ h) = allowed h && not (eventRefused (watched h) e)
+unfoldable pub allTaken : History → Bool
+allTaken [] = true
+allTaken (e ∷ h) = allTaken h && not (eventRefused (watched h) e)
 
 -- The Rust stores `regs.irq_pending` beside the flag and the enable: what a call makes of it, p, where the detector before the call is d.
--- "`regs.irq_pending`: not stored; shown equal to flag and enable against a definition that stores it."
+-- 01, "What must change shape": "`regs.irq_pending`: not stored; shown equal to flag and enable against a definition that stores it."
 unfoldable pub irqPendingBy : Detector → Bool → Event → Bool
 irqPendingBy d p clock = p
 irqPendingBy d p (fetch a) = pick (countedAt a && meets d a) (pick (d .«irq_enabled») true p) p

@@ -21,7 +21,7 @@ unfoldable pub historyOf : {C : Type 0} → (C → Event) → List C → History
 historyOf event [] = []
 historyOf event (c ∷ cs) = event c ∷ historyOf event cs
 
--- the calls cs, the newest first, were accepted one after the other, from load on, and left s: none left `first`; and where cs left s and c is
+-- the calls cs, the newest first, were accepted one after the other, from load on, and left s: no call at all leaves `first`; and where cs left s and c is
 -- taken from s to s', they and then c left s'
 pub data Played (S C : Type 0) (first : S) (Takes : S → C → S → Type 0) : List C → S → Type 0 where
   at-load : Played S C first Takes [] first

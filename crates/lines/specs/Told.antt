@@ -1,7 +1,7 @@
 -- What the calls since load alone tell of the scanline interrupt: demand 3, and 01, "Fetches, runs, breaks". No state is named here.
 -- A history is the list of the calls since load, the newest first: `e ∷ h` is the history h, and then the call e.
 -- Assumes nothing.
-use Prim.Native.Nat.{ℕ, _+_, _/_, _%_, _≤_}
+use Prim.Native.Nat.{ℕ, _+_, _%_, _≤_}
 use mathlib.Core.Path.{_≡_}
 use mathlib.Core.Logic.{_↔_}
 use mathlib.Core.Bool.{Bool, true, false, not, _&&_, _||_}

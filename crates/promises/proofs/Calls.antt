@@ -17,7 +17,7 @@ use Rattle.registers.specs.Registers.{written, nametableUse, regsOk}
 use Rattle.registers.proofs.RangeLaws.{ranges-say, ranges-hold, loaded-in-range, write-keeps}
 use Rattle.scanline.specs.declared.Detector.{Detector}
 use Rattle.scanline.specs.Tiles.{tilesOk}
-use Rattle.scanline.specs.Steps.{clocked}
+use Rattle.scanline.specs.Steps.{dark, clocked}
 use Rattle.scanline.proofs.RangeLaws.{ranges-kept}
 use Rattle.split.specs.declared.VSplit.{VSplit}
 use Rattle.split.specs.Control.{splitRanges}
@@ -35,7 +35,7 @@ use Rattle.cpu.specs.Groups.{within, splitAfter, irqAfter}
 use Rattle.cpu.specs.Reads.{irqRead}
 use Rattle.cpu.specs.Writes.{mapsPrg, mapsChr, mapsNames, prgPagesAfter, chrPagesAfter, registerWritten}
 use Rattle.board.specs.Loads.{loadedState}
-use Rattle.board.specs.Whole.{resetRegs, statusTold, detectorTold, toldPpu, dark}
+use Rattle.board.specs.Whole.{resetRegs, statusTold, detectorTold, toldPpu}
 use Rattle.promises.proofs.Mapped.{Mappable, windows-keep, exram-keeps, chr-keeps, names-keep}
 
 pub mappable : (z : Lengths) → lengthsOk z ≡ true → Mappable (z .prg) (z .chr) (z .ram)

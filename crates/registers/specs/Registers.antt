@@ -25,8 +25,8 @@ abbrev pub unlocked : Regs → Bool
 unlocked g = eqb (g .«protect_a») 2 && eqb (g .«protect_b») 1
 
 -- The registers after a CPU write, each with the address that writes it. "ExRAM mode 0-3", "$5105 gives four selectors of two bits",
--- module 9: "In attribute mode any $5101 write selects 4k." (CHR mode 1). That a mode, a protect byte and the fill attribute keep two bits is the
--- Rust's (`write_register`); 01 gives their ranges.
+-- module 9: "In attribute mode any $5101 write selects 4k." (CHR mode 1). That a mode, a protect byte, the fill attribute and $5130 keep
+-- two bits, $5130's as 0, 256, 512 or 768, is the Rust's (`write_register`); 01 gives their ranges.
 unfoldable pub written : Regs → ℕ → ℕ → Regs
 written g a v =
     record {

@@ -30,7 +30,8 @@ withRecord d r = record {
   «irq_scanline» = d .«irq_scanline»;
 }
 
--- this clock is the third (or sixth, ..) of an unbroken row of idle clocks: it is idle, and two were idle since the row began or last broke
+-- this clock is the third (or sixth, ..) of an unbroken row of idle clocks: it is idle, and two were since the row began or
+-- since its last third clock
 abbrev pub third : ClockRecord → Bool
 third r = not (r .reading) && eqb (r .«idle_count» + 1) 3
 

@@ -87,7 +87,11 @@ withFrame d some framed flag = record {
   «irq_scanline» = d .«irq_scanline»;
 }
 
--- "A break is a PPU register write to $2001 with bits 3 and 4 clear": no fetch before it, and out of frame. The flag stands.
+-- "A break is a PPU register write to $2001 with bits 3 and 4 clear": the value of such a write
+abbrev pub dark : ℕ → Bool
+dark v = eqb (v / 8 % 4) 0
+
+-- after it the next fetch has none before it, and the board is out of frame. The flag stands.
 abbrev pub broken : Detector → Detector
 broken d = withFrame d false false (d .pending)
 
@@ -118,7 +122,8 @@ withTarget d on n = record {
 abbrev pub targeted : Detector → ℕ → Detector
 targeted d v = withTarget d (d .«irq_enabled») v
 
--- 00, demand 3: "the last write to $5204 had bit 7 set"; 01, "Easy errors": "clearing the flag on a $5204 disable"
+-- 00, demand 3: "the last write to $5204 had bit 7 set"; the flag stands (01, "Easy errors": "clearing the
+-- flag on a $5204 disable")
 abbrev pub enabledBy : Detector → ℕ → Detector
 enabledBy d v = withTarget d (bitSet v 7) (d .«irq_scanline»)
 
