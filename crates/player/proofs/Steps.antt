@@ -1,9 +1,11 @@
 -- The loop over records: what holds at its head, and what one record does to that.
-use Prim.Native.Nat.{ℕ, zero, suc, _+_, _*_, _<_, _≤_}
+use Prim.Native.Nat.{ℕ, zero, suc, _+_, _*_, _-_, _<_, _≤_}
 use mathlib.Core.Bool.{Bool, true, false, false≢true}
 use mathlib.Core.List.{List}
 use mathlib.Core.Path.{_≡_, refl, sym, _∙_}
 use native.Mathlib.Omega.{arith}
+use mir.Syntax.{w64}
+use mir.Val.{Fits}
 use lib.ListN.{length, set, length-set}
 use Rattle.memory.specs.Bytes.{Mem}
 use Rattle.memory.proofs.Tests.{split}
@@ -90,6 +92,17 @@ Kept trace all m₀ log₀ at count s m log =
 
 pub kept : {trace : List ℕ} {all : Left} {m₀ : Mem} {log₀ : List ℕ} {at count : ℕ} {s : State} {m : Mem} {log : List ℕ} → Going trace all m₀ log₀ at count s m log → Kept trace all m₀ log₀ at count s m log
 kept g = (g, (g .sizes .chr, (g .sizes .ram, (g .sizes .ciram, (g .sizes .exram, g .log-size)))))
+
+-- At the head no more records were counted than a trace has bytes, and one more is a number; the record that is found there brings the end nearer.
+module _ {trace : List ℕ} {all : Left} {m₀ : Mem} {log₀ : List ℕ} {at count : ℕ} {s : State} {m : Mem} {log : List ℕ} (g : Going trace all m₀ log₀ at count s m log) where
+  pub few : count ≤ 8192
+  few = omega (arith, g .counted, g .inside, g .short)
+
+  pub one-more : Fits w64 (count + 1)
+  one-more = omega (arith, few)
+
+pub nearer : (trace : List ℕ) (at : ℕ) (call : Call) (next : ℕ) → recordAt trace at ≡ Record call next → length trace - next < length trace - at
+nearer trace at call next found = let sound = record-sound trace at call next found in omega (arith, sound .onward, sound .inside)
 
 -- Buffers that are equal are as good.
 pub onto : {trace : List ℕ} {all : Left} {m₀ : Mem} {log₀ : List ℕ} {at count : ℕ} {s : State} {m n : Mem} {log : List ℕ} → m ≡ n → Going trace all m₀ log₀ at count s n log → Going trace all m₀ log₀ at count s m log
