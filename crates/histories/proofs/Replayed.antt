@@ -17,6 +17,8 @@ use Rattle.answers.specs.declared.Refusal.the-variants.{Kind, Number, Length}
 use Rattle.answers.specs.Numbers.{numberOf}
 use Rattle.scanline.specs.Ranges.{counterRefused}
 use Rattle.scanline.specs.Steps.{interruptUp}
+use Rattle.state.specs.declared.gate.Gate.the-variants.{Shut}
+use Rattle.state.specs.Gate.{gateMem}
 use Rattle.cpu.specs.Reads.{audioRead}
 use Rattle.cpu.specs.Writes.{audioWrite}
 use Rattle.trace.specs.declared.Call.{Call}
@@ -220,3 +222,8 @@ from-load l trace log s =
 pub too-long : (b : Board) (trace log : List ℕ) → 8192 < length trace → replayOf b trace log ≡ ended (Stopped 0 Length) (b .state) (b .mem) log
 unfolding replayed
 too-long b trace log h = rw (lt-ltb 8192 (length trace) h)
+
+pub shut : (b : Board) (trace log : List ℕ) (why : Refusal) → length trace ≤ 8192 → gateMem (b .state) (b .mem) ≡ Shut why
+    → replayOf b trace log ≡ ended (Stopped 0 why) (b .state) (b .mem) log
+unfolding replayed
+shut b trace log why s h = rw (le-ltb 8192 (length trace) s, h)

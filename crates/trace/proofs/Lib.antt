@@ -1,3 +1,4 @@
 pub mod NumberLaws
 pub mod FormLaws
 pub mod RecordLaws
+pub mod CartridgeLaws
