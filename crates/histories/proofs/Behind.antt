@@ -16,7 +16,7 @@ use Rattle.answers.specs.Letters.{letterOf, valueOf}
 use Rattle.answers.specs.Numbers.{numberOf}
 use Rattle.scanline.specs.Fetches.{countedAt}
 use Rattle.scanline.specs.Ranges.{counterRefused}
-use Rattle.scanline.specs.Steps.{clocked}
+use Rattle.scanline.specs.Steps.{clocked, interruptUp}
 use Rattle.state.specs.declared.gate.Gate.{Gate}
 use Rattle.state.specs.declared.gate.Gate.the-variants.{Open, Shut}
 use Rattle.state.specs.declared.State.{State}
@@ -27,7 +27,7 @@ use Rattle.cpu.specs.Reads.{cpuAnswer, irqRead, audioRead}
 use Rattle.cpu.specs.Writes.{registerWritten, cpuStored, audioWrite}
 use Rattle.ppu.specs.Served.{countedServed}
 use Rattle.board.specs.declared.Interrupt.{Interrupt}
-use Rattle.board.specs.declared.Interrupt.the-variants.{Up, Down, Refused as NotTold}
+use Rattle.board.specs.declared.Interrupt.the-variants.{Up, Down}
 use Rattle.board.specs.declared.Outcome.{Outcome}
 use Rattle.board.specs.CpuSide.{cpuRead, cpuWrite}
 use Rattle.board.specs.Outcomes.{outcome, refused, After, afterOf, behind}
@@ -37,7 +37,7 @@ use Rattle.board_ppu.specs.Peeks.{chrWordAt, chrAnswer, ppuPeek, spritePeek, pp
 use Rattle.trace.specs.declared.Call.{Call}
 use Rattle.trace.specs.declared.Call.the-variants.{Clock, CpuRead, CpuWrite, PpuRegister, PpuFetch, Reset, PpuWrite}
 use Rattle.calls.specs.Called.{called}
-use Rattle.promises.specs.Refused.{isRefused, RefusedWith, isTold}
+use Rattle.promises.specs.Refused.{isRefused, RefusedWith}
 use Rattle.promises.proofs.Gates.{in-range-of}
 use Rattle.promises.proofs.Fetching.{split-free}
 use Rattle.promises.proofs.Promised.{who-is-refused}
@@ -119,11 +119,10 @@ numbers (Refused r) n l v = v
 pub with-number : (n : ℕ) (s : State) (o : Outcome) → RefusedWith n s o → numberIn (o .answer) ≡ n
 with-number n s o r = numbers (o .answer) n (r .letter) (r .number)
 
-pub told : (i : Interrupt) → isTold i ≡ true → number (interrupts i) ≡ 0
+pub told : (i : Interrupt) (up : Bool) → i ≡ pick up Up Down → number (interrupts i) ≡ 0
 unfolding number
-told Up e = refl
-told Down e = refl
-told (NotTold r) e = absurd (false≢true e)
+told i true e = rw e
+told i false e = rw e
 
 read-exactly : (s : State) (m : Mem) (a : ℕ) → gateMem s m ≡ Open → numberIn (cpuRead s m a .answer) ≡ pick (audioRead a) 6 0
 read-exactly s m a h =
@@ -151,7 +150,7 @@ exactly b (peek a) h = rw (who-is-refused .peek (b .state) (b .mem) (a .0)) (rea
 exactly b (ppu-peek a) h = given (ppuPeek (b .state) (b .mem) (a .0)) (who-is-refused .ppu-peek (b .state) (b .mem) (a .0) h)
 exactly b (sprite-peek a) h = given (spritePeek (b .state) (b .mem) (a .0)) (who-is-refused .sprite-peek (b .state) (b .mem) (a .0) h)
 exactly b mirroring-asked h = rw (who-is-refused .mirroring (b .state) (in-range-of (b .state) (b .mem) h))
-exactly b interrupt-asked h = told (interruptCall (b .state)) (who-is-refused .interrupt (b .state) (in-range-of (b .state) (b .mem) h))
+exactly b interrupt-asked h = told (interruptCall (b .state)) (interruptUp (b .state .irq)) (who-is-refused .interrupt (b .state) (in-range-of (b .state) (b .mem) h))
 exactly b (cpu-page a) h = refl
 exactly b (ppu-page a) h = refl
 

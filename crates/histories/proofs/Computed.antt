@@ -45,7 +45,7 @@ use Rattle.promises.specs.Loading.{goodPrg, goodChr, goodRam}
 use Rattle.promises.proofs.Loadings.{load-refusals}
 use Rattle.histories.specs.Boards.{Board, Made, says, leaves, number, numberIn}
 use Rattle.histories.specs.Histories.{Load, Reached}
-use Rattle.histories.specs.Edges.{lent, start, loads, accepted, after, seen, comes, edges, shutOut, Edges, ShutOut, onto, CasesAreHistories}
+use Rattle.histories.specs.Edges.{lent, start, loadAccepted, accepted, after, seen, comes, edges, shutOut, Edges, ShutOut, onto, CasesAreHistories}
 use Rattle.histories.proofs.Behind.{numbered}
 
 -- What the cases come to.
@@ -53,7 +53,7 @@ abbrev all-some : List ℕ → List (Option ℕ)
 all-some l = map some l
 
 come : (map comes edges ≡ all-some (159 ∷ 1 ∷ 254 ∷ 1 ∷ 64 ∷ 64 ∷ 64 ∷ 192 ∷ 64 ∷ 64 ∷ 0 ∷ 0 ∷ 9 ∷ 6 ∷ 6 ∷ 959 ∷ 928 ∷ [])) × (map comes shutOut ≡ all-some (1 ∷ 254 ∷ 7 ∷ 7 ∷ 63 ∷ 5 ∷ 192 ∷ 64 ∷ 192 ∷ []))
-unfolding nextTile tileRefused tilesOk spriteFetch isFirst isPrefetched columnOf lineRefused counterRefused detectorOk tick again matchesAfter isLine meets seenAt offsetOf byteAt storedAt pageStored all prgShowsAs chrShowsAs wordNumber pageOf pageStart windowPage written regsOk placed prgValues prgShown windowsMapped exramPage windowPages chrNumber chrMapped selector namePage namesMapped sameLengths gateOf lengthsOk inRange splitAddress chosen ppuAfter splitAfter irqAfter prgBanksAfter chrBanksAfter pageAnswer registerRead irqRead cpuAnswer prgPagesAfter chrPagesAfter registerWritten latched cpuStored cacheAfter ppuSeen splitSeen countedServed loadedState loadCall cpuRead cpuWrite clockCall statusTold detectorTold ppuRegisterCall countedCall ppuFetch chrAnswer says leaves number comes loads accepted after seen
+unfolding nextTile tileRefused tilesOk spriteFetch isFirst isPrefetched columnOf lineRefused counterRefused detectorOk tick again matchesAfter isLine meets seenAt offsetOf byteAt storedAt pageStored all prgShowsAs chrShowsAs wordNumber pageOf pageStart windowPage written regsOk placed prgValues prgShown windowsMapped exramPage windowPages chrNumber chrMapped selector namePage namesMapped sameLengths gateOf lengthsOk inRange splitAddress chosen ppuAfter splitAfter irqAfter prgBanksAfter chrBanksAfter pageAnswer registerRead irqRead cpuAnswer prgPagesAfter chrPagesAfter registerWritten latched cpuStored cacheAfter ppuSeen splitSeen countedServed loadedState loadCall cpuRead cpuWrite clockCall statusTold detectorTold ppuRegisterCall countedCall ppuFetch chrAnswer says leaves number comes loadAccepted accepted after seen
 come = (refl, refl)
 
 -- These are the values that are asked for.
@@ -86,10 +86,10 @@ none-is-not : {v : ℕ} {A : Type 0} → _≡_ {A = Option ℕ} none (some v) �
 none-is-not e = let z : _≡_ {A = ℕ} 0 1 = cc in absurd (omega arith)
 
 pub cases-are-histories : CasesAreHistories
-unfolding comes loads
+unfolding comes loadAccepted
 cases-are-histories c v e =
-    split (loads c && accepted (start c) (c .calls))
+    split (loadAccepted c && accepted (start c) (c .calls))
     (λ t.
-    let l : Load = record { mem = lent c; as-ram = false; mirroring = Horizontal; accepted = load-accepted (lent c) false Horizontal (eqb-true _ 0 (and-left (loads c) _ t)) } in
-    record { load = l; lends = refl; calls = goes-on l [] (start c) (c .calls) at-load (and-right (loads c) (accepted (start c) (c .calls)) t) })
+    let l : Load = record { mem = lent c; as-ram = false; mirroring = Horizontal; accepted = load-accepted (lent c) false Horizontal (eqb-true _ 0 (and-left (loadAccepted c) _ t)) } in
+    record { load = l; lends = refl; calls = goes-on l [] (start c) (c .calls) at-load (and-right (loadAccepted c) (accepted (start c) (c .calls)) t) })
     (λ t. none-is-not (rw t at e))

@@ -8,6 +8,7 @@ use Rattle.memory.proofs.Tests.{split}
 use Rattle.answers.specs.declared.Refusal.{Refusal}
 use Rattle.answers.specs.Numbers.{numberOf}
 use Rattle.scanline.specs.Ranges.{counterRefused}
+use Rattle.scanline.specs.Steps.{interruptUp}
 use Rattle.state.specs.declared.gate.Gate.{Gate}
 use Rattle.state.specs.declared.gate.Gate.the-variants.{Open, Shut}
 use Rattle.state.specs.declared.State.{State}
@@ -88,7 +89,7 @@ is-given b (peek a) =
 is-given b (ppu-peek a) = over-gate b (ppu-peek a) 0 (exactly b (ppu-peek a)) (λ r h. ap numberIn (who-is-refused .ppu-peek-shut (b .state) (b .mem) (a .0) r h))
 is-given b (sprite-peek a) = over-gate b (sprite-peek a) 0 (exactly b (sprite-peek a)) (λ r h. ap numberIn (who-is-refused .sprite-peek-shut (b .state) (b .mem) (a .0) r h))
 is-given b mirroring-asked = by-range b mirroring-asked (λ t. rw t) (λ t. rw t)
-is-given b interrupt-asked = by-range b interrupt-asked (λ t. told (interruptCall (b .state)) (who-is-refused .interrupt (b .state) t)) (λ t. rw t)
+is-given b interrupt-asked = by-range b interrupt-asked (λ t. told (interruptCall (b .state)) (interruptUp (b .state .irq)) (who-is-refused .interrupt (b .state) t)) (λ t. rw t)
 is-given b (cpu-page a) = refl
 is-given b (ppu-page a) = refl
 

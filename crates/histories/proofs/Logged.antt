@@ -12,7 +12,7 @@ use Rattle.trace.specs.declared.Call.{Call}
 use Rattle.logs.specs.Logs.{logLetter, logged}
 use Rattle.histories.specs.Boards.{Board}
 use Rattle.histories.specs.Replays.{boardAfterCalls, answerAt, letterAt, logAlong, Replays}
-use Rattle.histories.proofs.Replayed.{from-load, from-there, too-long}
+use Rattle.histories.proofs.Replayed.{from-load, from-there, too-long, shut}
 
 module _ (log : List ℕ) (n : ℕ) (a : Answer) (up : Bool) where
   logged-length : length (logged log n a up) ≡ length log
@@ -78,6 +78,7 @@ replays = record {
   from-load = from-load;
   from-history = λ l hs b h trace log s. from-there l hs b trace log h s;
   too-long = too-long;
+  shut = shut;
   letter-logged = letter-logged;
   value-logged = value-logged;
   others-kept = others-kept;

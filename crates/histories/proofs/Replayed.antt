@@ -1,15 +1,14 @@
 -- Replay of a trace is a history: by induction over its records.
 use Prim.Native.Nat.{ℕ, zero, suc, _+_, _-_, _<_, _≤_}
-use mathlib.Core.Bool.{Bool, true, false, false≢true}
+use mathlib.Core.Bool.{Bool, true, false}
 use mathlib.Core.List.{List, [], _∷_, _++_, map, append-nil}
 use mathlib.Core.Logic.{_⊎_, inl, inr}
 use mathlib.Core.Path.{_≡_, refl, sym, _∙_, ap, subst}
 use native.Mathlib.Omega.{arith}
-use borrow.Author.Tests.{ltb-true, ltb-false, lt-ltb, le-ltb}
+use borrow.Author.Tests.{lt-ltb, le-ltb}
 use lib.Dec.{ltb}
-use lib.ListN.{length, getD}
+use lib.ListN.{length}
 use Rattle.memory.specs.Words.{pick}
-use Rattle.memory.proofs.Tests.{split}
 use Rattle.answers.specs.declared.Answer.{Answer}
 use Rattle.answers.specs.declared.Answer.the-variants.{Nothing, Register, Served, Page, Blank, Refused}
 use Rattle.answers.specs.declared.Refusal.{Refusal}
@@ -17,17 +16,16 @@ use Rattle.answers.specs.declared.Refusal.the-variants.{Kind, Number, Length}
 use Rattle.answers.specs.Numbers.{numberOf}
 use Rattle.scanline.specs.Ranges.{counterRefused}
 use Rattle.scanline.specs.Steps.{interruptUp}
+use Rattle.state.specs.declared.gate.Gate.the-variants.{Shut}
+use Rattle.state.specs.Gate.{gateMem}
 use Rattle.cpu.specs.Reads.{audioRead}
 use Rattle.cpu.specs.Writes.{audioWrite}
 use Rattle.trace.specs.declared.Call.{Call}
 use Rattle.trace.specs.declared.Call.the-variants.{Clock, CpuRead, CpuWrite, PpuRegister, PpuFetch, Reset, PpuWrite}
 use Rattle.trace.specs.declared.Found.{Found}
 use Rattle.trace.specs.declared.Found.the-variants.{End, Record, Refused as Unreadable}
-use Rattle.trace.specs.declared.Numeral.{Numeral}
-use Rattle.trace.specs.declared.Numeral.the-variants.{Sound, Cut, Padded, Above}
-use Rattle.trace.specs.Records.{Form, numbered, filled, recordAt, formOf}
-use Rattle.trace.specs.Records.Form.{whole, address, value, unknown}
-use Rattle.trace.proofs.RecordLaws.{kind-left, record-advances, record-refused}
+use Rattle.trace.specs.Records.{recordAt}
+use Rattle.trace.proofs.RecordLaws.{none-read, record-advances, record-refused}
 use Rattle.lines.specs.Promise.Played.{at-load, taken}
 use Rattle.player.specs.declared.Ending.the-variants.{Stopped}
 use Rattle.logs.specs.Logs.{logged}
@@ -44,35 +42,11 @@ use Rattle.histories.proofs.Along.{open-along}
 use Rattle.histories.proofs.Behind.{exactly, numbered as no-zero}
 use Rattle.histories.proofs.GivenBack.{refusals}
 
--- Reading ends at the end only -------------------------------------------------------------------------------------------------------------
-
-abbrev isEnd : Found → Bool
-isEnd End = true
-isEnd (Record c next) = false
-isEnd (Unreadable why) = false
-
-number-goes-on : (n : Numeral) (f : ℕ → ℕ → Found) → ((v next : ℕ) → isEnd (f v next) ≡ false) → isEnd (numbered n f) ≡ false
-unfolding numbered
-number-goes-on (Sound v next) f h = h v next
-number-goes-on Cut f h = refl
-number-goes-on Padded f h = refl
-number-goes-on Above f h = refl
-
-form-goes-on : (f : Form) (trace : List ℕ) (at : ℕ) → isEnd (filled trace at f) ≡ false
-unfolding filled
-form-goes-on (whole c) trace at = refl
-form-goes-on (address rest) trace at = number-goes-on _ _ (λ v next. form-goes-on (rest v) trace next)
-form-goes-on (value rest) trace at = number-goes-on _ _ (λ v next. form-goes-on (rest v) trace next)
-form-goes-on unknown trace at = refl
+-- The calls before a place ------------------------------------------------------------------------------------------------------------------
 
 -- A place inside a trace where reading ends is its end.
 at-end : (trace : List ℕ) (at : ℕ) → at ≤ length trace → recordAt trace at ≡ End → at ≡ length trace
-at-end trace at i e =
-    split (ltb at (length trace))
-    (λ t. absurd (false≢true (sym (form-goes-on (formOf (getD trace at 0)) trace (at + 1)) ∙ ap isEnd (sym (kind-left trace at (ltb-true at (length trace) t)) ∙ e))))
-    (λ f. omega (arith, i, ltb-false at (length trace) f))
-
--- The calls before a place ------------------------------------------------------------------------------------------------------------------
+at-end trace at i e = omega (arith, i, none-read trace at e)
 
 inside : (trace : List ℕ) {cs : List Call} {at : ℕ} → Records trace cs at → (at ≤ length trace) × (length cs ≤ at)
 inside trace none = (omega arith, omega arith)
@@ -220,3 +194,8 @@ from-load l trace log s =
 pub too-long : (b : Board) (trace log : List ℕ) → 8192 < length trace → replayOf b trace log ≡ ended (Stopped 0 Length) (b .state) (b .mem) log
 unfolding replayed
 too-long b trace log h = rw (lt-ltb 8192 (length trace) h)
+
+pub shut : (b : Board) (trace log : List ℕ) (why : Refusal) → length trace ≤ 8192 → gateMem (b .state) (b .mem) ≡ Shut why
+    → replayOf b trace log ≡ ended (Stopped 0 why) (b .state) (b .mem) log
+unfolding replayed
+shut b trace log why s h = rw (le-ltb 8192 (length trace) s, h)

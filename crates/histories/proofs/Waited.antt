@@ -45,4 +45,4 @@ module _ (l : Load) where
 
 pub waits : Waits
 unfolding loadCall
-waits = record { worked = waited; loads = refl }
+waits = record { worked = waited; smallest-loads = refl }

@@ -19,19 +19,17 @@ use Rattle.split.specs.Region.{splitAddress}
 use Rattle.board.specs.CpuSide.{cpuRead}
 use Rattle.board.specs.Loads.{loadCall}
 use Rattle.board_ppu.specs.Peeks.{chrWordAt}
-use Rattle.trace.specs.declared.Call.the-variants.{Clock, CpuRead, CpuWrite, PpuRegister, PpuFetch}
-use Rattle.trace.specs.Records.{cpu, ppu}
 use Rattle.histories.specs.Boards.{Board, Made, says, leaves, number, numberIn}
-use Rattle.histories.specs.Boards.Made.{call}
 use Rattle.histories.specs.Histories.{Load, Reached}
+use Rattle.histories.specs.Shorthand.{read, write, tell, fetch, clock}
 
 -- Where a case looks: at what a CPU read answers from a register (letter `R`) or from a page (`M`), at a byte of ExRAM, at the number of the CHR
 -- page that a place of the CHR table shows, or, with no board, at the address that module 8 gives for a scroll and a column.
 pub data Sight : Type 0 where
   reads : (a : ℕ) → Sight
-  pages : (a : ℕ) → Sight
+  reads-page : (a : ℕ) → Sight
   holds : (i : ℕ) → Sight
-  shows : (place : ℕ) → Sight
+  maps : (place : ℕ) → Sight
   gives : (scroll column : ℕ) → Sight
 
 -- A cartridge by the lengths of PRG-ROM, CHR (as ROM) and PRG-RAM; the calls in the order in which they are made; where the case
@@ -51,8 +49,8 @@ lent c = memOf (replicate (c .prg) 255) (replicate (c .chr) 255) (replicate (c .
 abbrev pub start : Case → Board
 start c = record { state = loadCall (lent c) false Horizontal .state; mem = lent c }
 
-unfoldable pub loads : Case → Bool
-loads c = eqb (numberIn (loadCall (lent c) false Horizontal .answer)) 0
+unfoldable pub loadAccepted : Case → Bool
+loadAccepted c = eqb (numberIn (loadCall (lent c) false Horizontal .answer)) 0
 
 -- Each call is accepted, as the call before it left the board; and what the last leaves.
 unfoldable pub accepted : Board → List Made → Bool
@@ -77,30 +75,14 @@ chrPage ExRam i = none
 
 unfoldable pub seen : Board → Sight → Option ℕ
 seen b (reads a) = lettered 0x52 (cpuRead (b .state) (b .mem) a .answer)
-seen b (pages a) = lettered 0x4D (cpuRead (b .state) (b .mem) a .answer)
+seen b (reads-page a) = lettered 0x4D (cpuRead (b .state) (b .mem) a .answer)
 seen b (holds i) = some (getD (b .mem .exram) i 0)
-seen b (shows place) = chrPage (pageOf (chrWordAt (b .state .«chr_pages») (place * 1024)) .src) (pageOf (chrWordAt (b .state .«chr_pages») (place * 1024)) .index)
+seen b (maps place) = chrPage (pageOf (chrWordAt (b .state .«chr_pages») (place * 1024)) .src) (pageOf (chrWordAt (b .state .«chr_pages») (place * 1024)) .index)
 seen b (gives scroll column) = some (splitAddress scroll column)
 
 -- What a case comes to: none, if its load or a call is refused.
 unfoldable pub comes : Case → Option ℕ
-comes c = pick (loads c && accepted (start c) (c .calls)) (seen (after (start c) (c .calls)) (c .sight)) none
-
--- The calls.
-abbrev pub read : ℕ → Made
-read a = call (CpuRead (cpu a))
-
-abbrev pub write : ℕ → ℕ → Made
-write a v = call (CpuWrite (cpu a) v)
-
-abbrev pub tell : ℕ → ℕ → Made
-tell a v = call (PpuRegister (cpu a) v)
-
-abbrev pub fetch : ℕ → Made
-fetch a = call (PpuFetch (ppu a))
-
-abbrev pub clock : Made
-clock = call Clock
+comes c = pick (loadAccepted c && accepted (start c) (c .calls)) (seen (after (start c) (c .calls)) (c .sight)) none
 
 abbrev pub threeFetches : List Made
 threeFetches = fetch 0x2000 ∷ fetch 0x2000 ∷ fetch 0x2000 ∷ []
@@ -134,8 +116,8 @@ edges =
     ∷ case (write 0x5104 0 ∷ write 0x5C05 9 ∷ []) (holds 5) 0
     ∷ case (write 0x5104 0 ∷ write 0x5C05 9 ∷ tell 0x2001 8 ∷ write 0x5C05 9 ∷ []) (holds 5) 9
     -- "CHR 8,192, PPU $2000 = $20, then $5128 = 6: CHR pages 0 and 4 show page 6."
-    ∷ case (tell 0x2000 0x20 ∷ write 0x5128 6 ∷ []) (shows 0) 6
-    ∷ case (tell 0x2000 0x20 ∷ write 0x5128 6 ∷ []) (shows 4) 6
+    ∷ case (tell 0x2000 0x20 ∷ write 0x5128 6 ∷ []) (maps 0) 6
+    ∷ case (tell 0x2000 0x20 ∷ write 0x5128 6 ∷ []) (maps 4) 6
     -- "scroll 239: column 31 gives 959, column 32 gives 928."
     ∷ case [] (gives 239 31) 959
     ∷ case [] (gives 239 32) 928
@@ -150,11 +132,11 @@ shutOut =
     case [] (reads 0x5205) 1
     ∷ case [] (reads 0x5206) 0xFE
     -- stores nothing: PRG-RAM unlocked and $6000 = 7; ExRAM while rendering
-    ∷ record { prg = 8192; chr = 0; ram = 8192; calls = write 0x5102 2 ∷ write 0x5103 1 ∷ write 0x6000 7 ∷ []; sight = pages 0x6000; value = 7 }
+    ∷ record { prg = 8192; chr = 0; ram = 8192; calls = write 0x5102 2 ∷ write 0x5103 1 ∷ write 0x6000 7 ∷ []; sight = reads-page 0x6000; value = 7 }
     ∷ case (tell 0x2001 8 ∷ write 0x5C3F 7 ∷ []) (holds 63) 7
     -- idles after its first call: 7 x 9; a second page; a second line
     ∷ case (write 0x5205 7 ∷ write 0x5206 9 ∷ []) (reads 0x5205) 63
-    ∷ case (write 0x5120 1 ∷ write 0x5121 5 ∷ []) (shows 1) 5
+    ∷ case (write 0x5120 1 ∷ write 0x5121 5 ∷ []) (maps 1) 5
     ∷ case (write 0x5203 1 ∷ (threeFetches ++ (fetch 0x2001 ∷ threeFetches))) (reads 0x5204) 192
     -- an invented line number: $5203 = 2 is met by the third line, not by the second
     ∷ case (write 0x5203 2 ∷ (threeFetches ++ (fetch 0x2001 ∷ threeFetches))) (reads 0x5204) 64

@@ -1,4 +1,5 @@
 pub mod Boards
+pub mod Shorthand
 pub mod Histories
 pub mod Accepted
 pub mod Refusals

@@ -16,6 +16,8 @@ use Rattle.answers.specs.declared.Refusal.the-variants.{Length}
 use Rattle.answers.specs.Letters.{valueOf}
 use Rattle.answers.specs.Numbers.{numberOf}
 use Rattle.scanline.specs.Steps.{interruptUp}
+use Rattle.state.specs.declared.gate.Gate.the-variants.{Shut}
+use Rattle.state.specs.Gate.{gateMem}
 use Rattle.trace.specs.declared.Call.{Call}
 use Rattle.trace.specs.declared.Found.the-variants.{Record, Refused as Unreadable}
 use Rattle.trace.specs.Records.{recordAt}
@@ -107,6 +109,9 @@ pub record Replays : Type 0 where
       → Plays l hs b trace log (replayOf b trace log)
   -- 11: "trace longer than 8,192 bytes", at place 0, and nothing changes; given for no other trace (`Ends`)
   pub too-long : (s : Board) (trace log : List ℕ) → 8192 < length trace → replayOf s trace log ≡ ended (Stopped 0 Length) (s .state) (s .mem) log
+  -- 4 and 5, "at place 0 before any record, in an empty trace too": where the gate is shut, its refusal (crate `state`, specs/Gate.antt), and nothing changes
+  pub shut : (s : Board) (trace log : List ℕ) (why : Refusal) → length trace ≤ 8192 → gateMem (s .state) (s .mem) ≡ Shut why
+      → replayOf s trace log ≡ ended (Stopped 0 why) (s .state) (s .mem) log
   -- bytes 2 i and 2 i + 1 of the log tell of record i, where the log has them: after the earlier calls came c, and then the later ones
   pub letter-logged : (b : Board) (log : List ℕ) (later : List Call) (c : Call) (earlier : List Call) → 2 * length earlier < length log
       → getD (logAlong b log (later ++ (c ∷ earlier))) (2 * length earlier) 0 ≡ letterAt (boardAfterCalls b earlier) c

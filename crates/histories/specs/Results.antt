@@ -1,6 +1,7 @@
 -- Demand 2 over histories: "On every sequence of accepted calls from load, answers, page tables and memory .. are proved equal to definitions".
 -- 01, "What each contract settles": "Any two results it allows are proved equal". Each entry point's contract is one equation with the
--- definition that `says` and `leaves` name; here they are put together over a whole history.
+-- definition that `says` and `leaves` name; here they are put together over a whole history. No theorem speaks of code: that `Heard` is what the
+-- entry points do is seen by reading their contracts beside `says` and `leaves`, name by name.
 -- Assumes nothing.
 use mathlib.Core.Path.{_≡_}
 use mathlib.Core.Bool.{true}

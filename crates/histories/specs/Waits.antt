@@ -13,20 +13,15 @@ use Rattle.registers.specs.declared.Mirroring.the-variants.{Horizontal}
 use Rattle.board.specs.declared.Interrupt.the-variants.{Up, Down}
 use Rattle.board.specs.Loads.{loadCall}
 use Rattle.board.specs.Whole.{interruptCall}
-use Rattle.trace.specs.declared.Call.the-variants.{CpuWrite, PpuFetch}
-use Rattle.trace.specs.Records.{cpu, ppu}
 use Rattle.lines.specs.Told.{lineAt, Waiting, newLines, calm}
 use Rattle.lines.specs.Promise.{historyOf}
 use Rattle.histories.specs.Boards.{Board, Made}
-use Rattle.histories.specs.Boards.Made.{call}
 use Rattle.histories.specs.Histories.{Load, Reached, event}
-
-abbrev pub fetch : ℕ → Made
-fetch a = call (PpuFetch (ppu a))
+use Rattle.histories.specs.Shorthand.{write, fetch}
 
 -- The newest first: $5203 = 2, $5204 = $80, line 0.
 abbrev pub before : List Made
-before = fetch 0x2000 ∷ fetch 0x2000 ∷ fetch 0x2000 ∷ call (CpuWrite (cpu 0x5204) 0x80) ∷ call (CpuWrite (cpu 0x5203) 2) ∷ []
+before = fetch 0x2000 ∷ fetch 0x2000 ∷ fetch 0x2000 ∷ write 0x5204 0x80 ∷ write 0x5203 2 ∷ []
 
 -- A fetch elsewhere, line 1, and two fetches of line 2.
 abbrev pub between : List Made
@@ -50,4 +45,4 @@ smallest = memOf (replicate 8192 0) [] [] (replicate 2048 0) (replicate 1024 0)
 
 pub record Waits : Type 0 where
   pub worked : (l : Load) → WorkedWait l
-  pub loads : loadCall smallest false Horizontal .answer ≡ Nothing
+  pub smallest-loads : loadCall smallest false Horizontal .answer ≡ Nothing

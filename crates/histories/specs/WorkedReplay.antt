@@ -1,27 +1,19 @@
--- 01, "Trace": the worked input, replayed over the cartridge that 01 gives the program `replay`, and a trace that is refused.
+-- 01, "Trace": the worked input, replayed over the cartridge that 01 gives the program `replay` (crate `trace`,
+-- specs/Cartridge.antt), and traces that are refused. Its printed lines: crate `transcript`, specs/Told.antt.
 -- Assumes nothing.
-use Prim.Native.Nat.{ℕ, zero, suc, _+_}
+use Prim.Native.Nat.{ℕ}
 use mathlib.Core.Bool.{false}
-use mathlib.Core.List.{List, [], _∷_, _++_}
+use mathlib.Core.List.{List, [], _∷_}
 use mathlib.Core.Path.{_≡_}
 use lib.ListN.{replicate}
-use Rattle.memory.specs.Bytes.{Mem, memOf}
 use Rattle.answers.specs.declared.Answer.the-variants.{Nothing}
 use Rattle.answers.specs.declared.Refusal.the-variants.{Audio, Number}
 use Rattle.registers.specs.declared.Mirroring.the-variants.{Horizontal}
 use Rattle.board.specs.Loads.{loadCall}
+use Rattle.trace.specs.Cartridge.{cartridge}
 use Rattle.trace.specs.Examples.{worked}
 use Rattle.player.specs.declared.Ending.the-variants.{Done, Stopped}
 use Rattle.player.specs.Replay.{Left, replayed}
-
--- n pages of 1,024 bytes, the first of bytes b, each next one of bytes one larger.
-unfoldable pub pages : ℕ → ℕ → List ℕ
-pages b zero = []
-pages b (suc n) = replicate 1024 b ++ pages (b + 1) n
-
--- "PRG-ROM 32,768 (byte = offset / 1,024), CHR-ROM 8,192 (128 + offset / 1,024), PRG-RAM 8,192, RAMs zero, Horizontal"
-abbrev pub cartridge : Mem
-cartridge = memOf (pages 0 32) (pages 128 8) (replicate 8192 0) (replicate 2048 0) (replicate 1024 0)
 
 -- A trace replayed from load on, with a log of 14 bytes.
 abbrev pub replayOver : List ℕ → Left

@@ -6,7 +6,7 @@ use mathlib.Core.Path.{_≡_, refl}
 use lib.Dec.{eqb, leb, ltb}
 use Rattle.memory.specs.declared.PageWord.{PageWord}
 use Rattle.memory.specs.Bytes.{Mem, pageByte}
-use Rattle.memory.specs.Words.{pick, pageOf}
+use Rattle.memory.specs.Words.{pageOf}
 use Rattle.memory.proofs.Tests.{split, pick-keeps}
 use Rattle.answers.specs.declared.Answer.{Answer}
 use Rattle.answers.specs.declared.Refusal.{Refusal}
@@ -18,7 +18,6 @@ use Rattle.banks.specs.Names.{selector}
 use Rattle.scanline.specs.declared.Detector.{Detector}
 use Rattle.scanline.specs.Fetches.{countedAt, attributeAt}
 use Rattle.scanline.specs.Ranges.{counterRefused}
-use Rattle.scanline.specs.Steps.{interruptUp}
 use Rattle.scanline.specs.Tiles.{spriteFetch}
 use Rattle.split.specs.declared.VSplit.{VSplit}
 use Rattle.state.specs.declared.gate.Gate.the-variants.{Open}
@@ -27,7 +26,6 @@ use Rattle.state.specs.declared.State.{State}
 use Rattle.state.specs.Gate.{gateMem}
 use Rattle.cpu.specs.Reads.{pageAnswer, cpuAnswer, audioRead}
 use Rattle.ppu.specs.Served.{splitServes, countedServed, patternServed}
-use Rattle.board.specs.declared.Interrupt.the-variants.{Up, Down}
 use Rattle.board.specs.declared.Outcome.{Outcome}
 use Rattle.board.specs.CpuSide.{cpuRead, cpuPeek, cpuWrite}
 use Rattle.board.specs.Whole.{resetCall, clockCall, ppuRegisterCall, mirroringCall, interruptCall}
@@ -35,7 +33,7 @@ use Rattle.board.specs.Outcomes.{refused}
 use Rattle.board_ppu.specs.Fetch.{countedIrq, countedPpu, countedSplit, countedCall, patternCall, ppuFetch}
 use Rattle.board_ppu.specs.Peeks.{chrWordAt, chrAnswer, ppuPeek, spritePeek, ppuWrite}
 use Rattle.promises.specs.Kept.{GateStaysOpen}
-use Rattle.promises.specs.Refused.{RefusedWith, isTold, WhoIsRefused}
+use Rattle.promises.specs.Refused.{RefusedWith, WhoIsRefused}
 use Rattle.promises.proofs.Fetching.{split-free, fetch-open, ppu-write-open}
 use Rattle.promises.proofs.Gates.{in-range-of, read-open, write-open, reset-open, clock-open, register-open, load-open}
 use Rattle.promises.proofs.Refusals.{Given, shown-is-given, answer-is-given, same-behind}
@@ -97,10 +95,6 @@ sprite-is-given s m a h = rw h (pick-keeps Given (not (s .ppu .sprite8x16) || le
 refused-with : (r : Refusal) (s : State) (o : Outcome) → o ≡ refused s r → RefusedWith (numberOf r) s o
 refused-with r s o e = rw e (record { letter = refl; number = refl; given-back = refl })
 
-told-either : (b : Bool) → isTold (pick b Up Down) ≡ true
-told-either true = refl
-told-either false = refl
-
 pub who-is-refused : WhoIsRefused
 unfolding cpuRead cpuPeek cpuWrite resetCall clockCall ppuRegisterCall mirroringCall interruptCall ppuFetch ppuPeek spritePeek ppuWrite
 who-is-refused =
@@ -120,7 +114,7 @@ who-is-refused =
       clock = λ s h. rw h;
       register = λ s a v h. rw h;
       mirroring = λ s h. rw h;
-      interrupt = λ s h. rw h (told-either (interruptUp (s .irq)));
+      interrupt = λ s h. rw h;
       read-shut = λ s m a r h. rw h;
       write-shut = λ s m a v r h. rw h;
       fetch-shut = λ s m a r h. rw h;
@@ -130,4 +124,7 @@ who-is-refused =
       reset-broken = λ s h. refused-with StateBroken s (resetCall s) (rw h);
       clock-broken = λ s h. refused-with StateBroken s (clockCall s) (rw h);
       register-broken = λ s a v h. refused-with StateBroken s (ppuRegisterCall s a v) (rw h);
+      mirroring-broken = λ s h. rw h;
+      interrupt-broken = λ s h. rw h;
+      broken-is-five = refl;
     }

@@ -7,21 +7,24 @@ use mathlib.Core.Bool.{Bool, true, false}
 use mathlib.Core.Path.{_≡_}
 use lib.Dec.{eqb}
 use Rattle.memory.specs.Bytes.{Mem}
+use Rattle.memory.specs.Words.{pick}
 use Rattle.answers.specs.declared.Answer.{Answer}
 use Rattle.answers.specs.declared.Answer.the-variants.{Nothing, Refused}
 use Rattle.answers.specs.declared.Refusal.{Refusal}
+use Rattle.answers.specs.declared.Refusal.the-variants.{State as StateBroken}
 use Rattle.answers.specs.Letters.{letterOf, valueOf}
+use Rattle.answers.specs.Numbers.{numberOf}
 use Rattle.scanline.specs.Ranges.{counterRefused}
+use Rattle.scanline.specs.Steps.{interruptUp}
 use Rattle.state.specs.declared.gate.Gate.the-variants.{Open, Shut}
 use Rattle.state.specs.declared.State.{State}
 use Rattle.state.specs.Gate.{gateMem}
 use Rattle.state.specs.Ranges.{inRange}
 use Rattle.cpu.specs.Reads.{audioRead}
 use Rattle.cpu.specs.Writes.{audioWrite}
-use Rattle.board.specs.declared.Interrupt.{Interrupt}
 use Rattle.board.specs.declared.Interrupt.the-variants.{Up, Down, Refused as NotTold}
 use Rattle.board.specs.declared.Outcome.{Outcome}
-use Rattle.board.specs.declared.Told.the-variants.{Is}
+use Rattle.board.specs.declared.Told.the-variants.{Is, Refused as NotSaid}
 use Rattle.board.specs.CpuSide.{cpuRead, cpuPeek, cpuWrite}
 use Rattle.board.specs.Outcomes.{refused, afterOf}
 use Rattle.board.specs.Whole.{resetCall, clockCall, ppuRegisterCall, mirroringCall, interruptCall}
@@ -37,11 +40,6 @@ pub record RefusedWith (n : ℕ) (s : State) (o : Outcome) : Type 0 where
   pub letter : letterOf (o .answer) ≡ 0x21
   pub number : valueOf (o .answer) ≡ n
   pub given-back : o .state ≡ s
-
-abbrev pub isTold : Interrupt → Bool
-isTold Up = true
-isTold Down = true
-isTold (NotTold r) = false
 
 pub record WhoIsRefused : Type 0 where
   -- behind an open gate: reads, peeks and writes
@@ -62,7 +60,7 @@ pub record WhoIsRefused : Type 0 where
   pub clock : (s : State) → inRange s ≡ true → clockCall s .answer ≡ Nothing
   pub register : (s : State) (a v : ℕ) → inRange s ≡ true → ppuRegisterCall s a v .answer ≡ Nothing
   pub mirroring : (s : State) → inRange s ≡ true → mirroringCall s ≡ Is (s .screen .mirroring)
-  pub interrupt : (s : State) → inRange s ≡ true → isTold (interruptCall s) ≡ true
+  pub interrupt : (s : State) → inRange s ≡ true → interruptCall s ≡ pick (interruptUp (s .irq)) Up Down
   -- at a shut gate: the gate's refusal, the state given back, no byte written
   pub read-shut : (s : State) (m : Mem) (a : ℕ) (r : Refusal) → gateMem s m ≡ Shut r → cpuRead s m a ≡ refused s r
   pub write-shut : (s : State) (m : Mem) (a v : ℕ) (r : Refusal) → gateMem s m ≡ Shut r → cpuWrite s m a v ≡ afterOf (refused s r) m
@@ -73,3 +71,7 @@ pub record WhoIsRefused : Type 0 where
   pub reset-broken : (s : State) → inRange s ≡ false → RefusedWith 5 s (resetCall s)
   pub clock-broken : (s : State) → inRange s ≡ false → RefusedWith 5 s (clockCall s)
   pub register-broken : (s : State) (a v : ℕ) → inRange s ≡ false → RefusedWith 5 s (ppuRegisterCall s a v)
+  -- these two have no outcome; `StateBroken` is the refusal with the number 5
+  pub mirroring-broken : (s : State) → inRange s ≡ false → mirroringCall s ≡ NotSaid StateBroken
+  pub interrupt-broken : (s : State) → inRange s ≡ false → interruptCall s ≡ NotTold StateBroken
+  pub broken-is-five : numberOf StateBroken ≡ 5

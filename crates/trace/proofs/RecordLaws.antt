@@ -1,7 +1,8 @@
 -- Laws of records in a trace: which form a kind has, what is read at a place, and what holds of every record that is read. Assumes nothing.
 use Prim.Native.Nat.{ℕ, zero, suc, _+_, _-_, _<_, _≤_}
+use mathlib.Core.Bool.{Bool, true, false, false≢true}
 use mathlib.Core.List.{List}
-use mathlib.Core.Logic.{inl, inr}
+use mathlib.Core.Logic.{_⊎_, inl, inr}
 use mathlib.Core.Path.{_≡_, refl, sym, ap, _∙_}
 use native.Mathlib.Nat.{add-zero}
 use native.Mathlib.Omega.{arith}
@@ -19,11 +20,11 @@ use Rattle.trace.specs.declared.Numeral.{Numeral}
 use Rattle.trace.specs.declared.Numeral.the-variants.{Sound, Cut, Padded, Above}
 use Rattle.trace.specs.Numbers.{numeral, limited, numberAt, addressAt, valueAt}
 use Rattle.trace.specs.Records.{HasAddress, HasValue, Form, whole, address, value, unknown, forms, formOf, kindOf, numbered, filled, recordAt, taking}
-use Rattle.trace.specs.Promise.{InRange, SoundRecord, RefusedRecord}
+use Rattle.trace.specs.Promise.{InRange, SoundRecord}
 use Rattle.trace.proofs.NumberLaws.{clash, within-limit, number-advances}
 
 -- What holds of each of the seven kinds.
-by-kind : (P : ℕ → Type 0) → P 0 → P 1 → P 2 → P 3 → P 4 → P 5 → P 6 → (k : ℕ) → k < 7 → P k
+pub by-kind : (P : ℕ → Type 0) → P 0 → P 1 → P 2 → P 3 → P 4 → P 5 → P 6 → (k : ℕ) → k < 7 → P k
 by-kind P a b c d e f g zero h = a
 by-kind P a b c d e f g (suc zero) h = b
 by-kind P a b c d e f g (suc (suc zero)) h = c
@@ -71,14 +72,40 @@ pub kind-left : (t : List ℕ) (at : ℕ) → at < length t → recordAt t at �
 unfolding recordAt
 kind-left t at h = rw (lt-ltb at (length t) h)
 
--- A number was sound where reading went on to a record.
-record Number-read (m : Numeral) (f : ℕ → ℕ → Found) (call : Call) (end : ℕ) : Type 0 where
-  n : ℕ
-  next : ℕ
-  sound : m ≡ Sound n next
-  rest : f n next ≡ Record call end
+-- Reading ends at the end only.
+abbrev isEnd : Found → Bool
+isEnd End = true
+isEnd (Record call next) = false
+isEnd (Refused why) = false
 
-numbered-record : (m : Numeral) (f : ℕ → ℕ → Found) (call : Call) (end : ℕ) → numbered m f ≡ Record call end → Number-read m f call end
+number-goes-on : (n : Numeral) (f : ℕ → ℕ → Found) → ((v next : ℕ) → isEnd (f v next) ≡ false) → isEnd (numbered n f) ≡ false
+unfolding numbered
+number-goes-on (Sound v next) f h = h v next
+number-goes-on Cut f h = refl
+number-goes-on Padded f h = refl
+number-goes-on Above f h = refl
+
+form-goes-on : (f : Form) (t : List ℕ) (at : ℕ) → isEnd (filled t at f) ≡ false
+unfolding filled
+form-goes-on (whole call) t at = refl
+form-goes-on (address rest) t at = number-goes-on _ _ (λ v next. form-goes-on (rest v) t next)
+form-goes-on (value rest) t at = number-goes-on _ _ (λ v next. form-goes-on (rest v) t next)
+form-goes-on unknown t at = refl
+
+pub none-read : (t : List ℕ) (at : ℕ) → recordAt t at ≡ End → length t ≤ at
+none-read t at e =
+    split (ltb at (length t))
+    (λ b. absurd (false≢true (sym (form-goes-on (formOf (getD t at 0)) t (at + 1)) ∙ ap isEnd (sym (kind-left t at (ltb-true at (length t) b)) ∙ e))))
+    (λ b. ltb-false at (length t) b)
+
+-- A number was sound where reading went on to a record.
+pub record Number-read (m : Numeral) (f : ℕ → ℕ → Found) (call : Call) (end : ℕ) : Type 0 where
+  pub n : ℕ
+  pub next : ℕ
+  pub sound : m ≡ Sound n next
+  pub rest : f n next ≡ Record call end
+
+pub numbered-record : (m : Numeral) (f : ℕ → ℕ → Found) (call : Call) (end : ℕ) → numbered m f ≡ Record call end → Number-read m f call end
 unfolding numbered
 numbered-record (Sound n next) f call end e = record { n = n; next = next; sound = refl; rest = e }
 numbered-record Cut f call end e = clash (cc)
@@ -145,7 +172,7 @@ forms-fit =
     (tt, refl) (λ a h. (h, refl)) (λ a h v g. ((h, g), refl)) (λ a h v g. ((h, g), refl)) (λ a h. (h, refl)) (tt, refl) (λ a h v g. ((h, g), refl))
 
 -- The two kinds of byte that a place can have.
-by-byte : {A : Type 0} (k : ℕ) → (k < 7 → A) → (6 < k → A) → A
+pub by-byte : {A : Type 0} (k : ℕ) → (k < 7 → A) → (6 < k → A) → A
 by-byte k f g = split (ltb k 7) (λ t. f (ltb-true k 7 t)) (λ t. g (omega (arith, ltb-false k 7 t)))
 
 -- What holds of every record that is read.
@@ -168,7 +195,11 @@ record-sound t at call next e =
 pub record-advances : (t : List ℕ) (at : ℕ) (call : Call) (next : ℕ) → recordAt t at ≡ Record call next → (at < next) × (next ≤ length t)
 record-advances t at call next e = let s : SoundRecord t at call next = record-sound t at call next e in (s .onward, s .inside)
 
--- Why a place is refused.
+-- Why a place is refused: 9 where its byte is no kind, 10 where it is one.
+pub record RefusedRecord (trace : List ℕ) (at : ℕ) (why : Refusal) : Type 0 where
+  pub inside : at < length trace
+  pub cause : ((why ≡ Kind) × (6 < getD trace at 0)) ⊎ ((why ≡ Number) × (getD trace at 0 ≤ 6))
+
 pub record-refused : (t : List ℕ) (at : ℕ) (why : Refusal) → recordAt t at ≡ Refused why → RefusedRecord t at why
 unfolding filled
 record-refused t at why e =

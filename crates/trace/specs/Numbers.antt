@@ -35,8 +35,8 @@ limited limit Above = Above
 abbrev pub numberAt : ℕ → ℕ → List ℕ → ℕ → Numeral
 numberAt groups limit trace at = limited limit (numeral groups at (drop at trace))
 
--- "Addresses to 65,535, values to 255." A number of more than three groups is above the one limit, of more than two above the other
--- (specs/Promise.antt, `address-groups` and `value-groups`).
+-- "Addresses to 65,535, values to 255." A number of more than three groups is cut, padded or above the one limit, of more than two the other
+-- (specs/Promise.antt, `refused`, knows no number of groups).
 abbrev pub addressAt : List ℕ → ℕ → Numeral
 addressAt = numberAt 3 65535
 

@@ -1,19 +1,18 @@
 -- What is promised of reading beyond the definition of `recordAt`, as one statement, which the contract of `promises` holds. Assumes nothing.
-use Prim.Native.Nat.{ℕ, zero, suc, _+_, _-_, _/_, _%_, _<_, _≤_}
+use Prim.Native.Nat.{ℕ, zero, suc, _+_, _/_, _%_, _<_, _≤_}
 use mathlib.Core.List.{List, [], _∷_, _++_}
-use mathlib.Core.Logic.{_⊎_}
+use mathlib.Core.Logic.{_↔_}
 use mathlib.Core.Path.{_≡_}
 use lib.Dec.{ltb}
-use lib.ListN.{length, getD, take, drop}
+use lib.ListN.{length, getD, drop}
 use Rattle.memory.specs.Words.{pick}
-use Rattle.answers.specs.declared.Refusal.{Refusal}
-use Rattle.answers.specs.declared.Refusal.the-variants.{Kind, Number}
+use Rattle.answers.specs.Numbers.{numberOf}
 use Rattle.trace.specs.declared.Call.{Call}
 use Rattle.trace.specs.declared.Call.the-variants.{Clock, CpuRead, CpuWrite, PpuRegister, PpuFetch, Reset, PpuWrite}
-use Rattle.trace.specs.declared.Found.the-variants.{Record, Refused}
-use Rattle.trace.specs.declared.Numeral.the-variants.{Sound, Padded}
-use Rattle.trace.specs.Numbers.{numeral, numberAt, addressAt, valueAt}
+use Rattle.trace.specs.declared.Found.{Found}
+use Rattle.trace.specs.declared.Found.the-variants.{End, Record, Refused}
 use Rattle.trace.specs.Records.{kindOf, recordAt}
+use Rattle.trace.specs.Refusals.{refusalAt}
 
 -- "Addresses to 65,535, values to 255."
 unfoldable pub InRange : Call → Type 0
@@ -33,14 +32,11 @@ pub record SoundRecord (trace : List ℕ) (at : ℕ) (call : Call) (next : ℕ) 
   pub in-range : InRange call
   pub kind : getD trace at 0 ≡ kindOf call
 
--- Why a place is refused: 9 where its byte is no kind, 10 where it is one.
-pub record RefusedRecord (trace : List ℕ) (at : ℕ) (why : Refusal) : Type 0 where
-  pub inside : at < length trace
-  pub cause : ((why ≡ Kind) × (6 < getD trace at 0)) ⊎ ((why ≡ Number) × (getD trace at 0 ≤ 6))
-
--- Bytes with their top bit set.
-abbrev pub Topped : List ℕ → Type 0
-Topped bytes = (i : ℕ) → i < length bytes → 128 ≤ getD bytes i 0
+-- The number of the refusal in what stands at a place, 0 where there is none.
+abbrev pub numberFound : Found → ℕ
+numberFound End = 0
+numberFound (Record call next) = 0
+numberFound (Refused why) = numberOf why
 
 -- A list that a slice of bytes can hold.
 abbrev pub Bytes : List ℕ → Type 0
@@ -51,16 +47,33 @@ unfoldable pub shortest : ℕ → ℕ → List ℕ
 shortest zero n = []
 shortest (suc groups) n = pick (ltb n 128) (n ∷ []) ((128 + n % 128) ∷ shortest groups (n / 128))
 
+-- "A record is one kind byte, then numbers": the bytes of a call's record, and its numbers alone.
+abbrev pub numbersOf : Call → List ℕ
+numbersOf Clock = []
+numbersOf (CpuRead a) = shortest 3 (a .0)
+numbersOf (CpuWrite a v) = shortest 3 (a .0) ++ shortest 2 v
+numbersOf (PpuRegister a v) = shortest 3 (a .0) ++ shortest 2 v
+numbersOf (PpuFetch a) = shortest 3 (a .0)
+numbersOf Reset = []
+numbersOf (PpuWrite a v) = shortest 3 (a .0) ++ shortest 2 v
+
+abbrev pub recordOf : Call → List ℕ
+recordOf call = kindOf call ∷ numbersOf call
+
+-- The record of a call stands at a place, and the next place is the one behind it.
+pub record Stands (trace : List ℕ) (at : ℕ) (call : Call) (next : ℕ) : Type 0 where
+  pub in-range : InRange call
+  pub bytes : drop at trace ≡ recordOf call ++ drop next trace
+  pub behind : next ≡ at + length (recordOf call)
+
 pub record Reading : Type 0 where
   pub sound : (trace : List ℕ) (at : ℕ) (call : Call) (next : ℕ) → recordAt trace at ≡ Record call next → SoundRecord trace at call next
-  pub refused : (trace : List ℕ) (at : ℕ) (why : Refusal) → recordAt trace at ≡ Refused why → RefusedRecord trace at why
+  -- Reading ends where the trace does, and nowhere else.
+  pub ends : (trace : List ℕ) (at : ℕ) → (recordAt trace at ≡ End) ↔ (length trace ≤ at)
+  -- 9 and 10 are given exactly where 01 says (specs/Refusals.antt), and no other refusal is.
+  pub refused : (trace : List ℕ) (at : ℕ) → numberFound (recordAt trace at) ≡ refusalAt trace at
+  -- A call's record that stands at a place is read as that call, and no other bytes are: "shortest form only".
+  pub read : (trace : List ℕ) (at : ℕ) (call : Call) (next : ℕ) → Stands trace at call next → recordAt trace at ≡ Record call next
+  pub written : (trace : List ℕ) (at : ℕ) (call : Call) (next : ℕ) → Bytes trace → recordAt trace at ≡ Record call next → Stands trace at call next
   -- What is read at a place depends on the bytes from there on.
   pub ahead : (trace other : List ℕ) (at : ℕ) → drop at trace ≡ drop at other → recordAt trace at ≡ recordAt other at
-  -- A last group of 0 that is not the only one is padding.
-  pub padded : (groups at : ℕ) (b : ℕ) (bytes rest : List ℕ) → Topped (b ∷ bytes) → length (b ∷ bytes) < groups → numeral groups at ((b ∷ bytes) ++ (0 ∷ rest)) ≡ Padded
-  -- A number is read from its shortest form only.
-  pub form : (groups limit : ℕ) (trace : List ℕ) (at n next : ℕ) → Bytes trace → numberAt groups limit trace at ≡ Sound n next
-      → take (next - at) (drop at trace) ≡ shortest groups n
-  -- The number of groups refuses no address and no value that is within its limit.
-  pub address-groups : (groups : ℕ) (trace : List ℕ) (at n next : ℕ) → 3 ≤ groups → numberAt groups 65535 trace at ≡ Sound n next → addressAt trace at ≡ Sound n next
-  pub value-groups : (groups : ℕ) (trace : List ℕ) (at n next : ℕ) → 2 ≤ groups → numberAt groups 255 trace at ≡ Sound n next → valueAt trace at ≡ Sound n next

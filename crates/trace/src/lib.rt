@@ -1,8 +1,10 @@
 // Traces: the calls of a session as bytes, read record by record. 01, "Trace". What the bytes mean stands in specs/: Numbers.antt for the
-// numbers, Records.antt for the kinds and the records, Promise.antt for what follows from that, Examples.antt for worked cases.
+// numbers, Records.antt for the kinds and the records, Promise.antt for what follows from that, Examples.antt for worked cases, Cartridge.antt for
+// the cartridge that the program `replay` plays a trace over.
 ghost use mathlib.Core.Path.{_≡_};
 ghost use Rattle.trace.specs.Records.{kindOf, tooLong};
 ghost use Rattle.trace.specs.Promise.{Reading};
+ghost use Rattle.trace.specs.Cartridge.{CartridgeBytes};
 ghost use Rattle.trace.specs.Examples.{Examples};
 use answers::Refusal;
 use memory::CpuAddr;
@@ -62,9 +64,10 @@ pub fn too_long(len: usize) -> bool
     LONGEST < len
 }
 
-// No code: its contract holds what is promised of reading beyond what each function says, so that a proof that goes missing fails the check.
+// No code: its contract holds what is promised of reading beyond what each function says, and what 01's cartridge holds, so that a proof that
+// goes missing fails the check.
 pub fn promises()
-    ensures { λ _. ⌜ Reading ⌝ }
+    ensures { λ _. ⌜ Reading × CartridgeBytes ⌝ }
 {}
 
 // No code: its contract holds the worked cases.

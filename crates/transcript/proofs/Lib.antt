@@ -1,4 +1,7 @@
 pub mod Printing
+pub mod Pages
 pub mod Overs
 pub mod Counting
 pub mod Telling
+pub mod WorkedLines
+pub mod Transcribed

@@ -1,0 +1,43 @@
+-- The worked input's lines, by computation.
+use mathlib.Core.Bool.{false}
+use mathlib.Core.Path.{_≡_, refl}
+use Rattle.registers.specs.declared.Mirroring.the-variants.{Horizontal}
+use Rattle.memory.specs.Bytes.{offsetOf, byteAt, storedAt, pageStored}
+use Rattle.memory.specs.Tables.{all, prgShowsAs, chrShowsAs}
+use Rattle.memory.specs.Words.{wordNumber, pageOf}
+use Rattle.memory.specs.Windows.{pageStart, windowPage}
+use Rattle.registers.specs.Registers.{written, regsOk}
+use Rattle.banks.specs.Placed.{placed}
+use Rattle.banks.specs.Prg.{prgValues, prgShown, windowsMapped, exramPage}
+use Rattle.banks.specs.Chr.{windowPages, chrNumber, chrMapped}
+use Rattle.banks.specs.Names.{selector, namePage, namesMapped}
+use Rattle.scanline.specs.Tiles.{nextTile, tileRefused, tilesOk, spriteFetch, isFirst, isPrefetched, columnOf}
+use Rattle.scanline.specs.Ranges.{lineRefused, counterRefused, detectorOk}
+use Rattle.scanline.specs.Clock.{tick}
+use Rattle.scanline.specs.Steps.{again, matchesAfter, isLine, meets, seenAt}
+use Rattle.state.specs.Gate.{sameLengths, gateOf}
+use Rattle.state.specs.Lengths.{lengthsOk}
+use Rattle.state.specs.Ranges.{inRange}
+use Rattle.cpu.specs.Chosen.{chosen, ppuAfter}
+use Rattle.cpu.specs.Groups.{splitAfter, irqAfter, prgBanksAfter, chrBanksAfter}
+use Rattle.cpu.specs.Reads.{pageAnswer, registerRead, irqRead, cpuAnswer}
+use Rattle.cpu.specs.Writes.{prgPagesAfter, chrPagesAfter, registerWritten, latched, cpuStored}
+use Rattle.ppu.specs.Fetches.{cacheAfter, ppuSeen, splitSeen}
+use Rattle.ppu.specs.Served.{countedServed}
+use Rattle.board.specs.Loads.{loadedState, loadCall}
+use Rattle.board.specs.CpuSide.{cpuRead, cpuWrite}
+use Rattle.board.specs.Whole.{clockCall, statusTold, detectorTold, ppuRegisterCall}
+use Rattle.board_ppu.specs.Fetch.{countedCall, ppuFetch}
+use Rattle.board_ppu.specs.Peeks.{chrAnswer}
+use Rattle.trace.specs.Numbers.{grouped, numeral, limited}
+use Rattle.trace.specs.Records.{numbered, filled, recordAt}
+use Rattle.trace.specs.Cartridge.{countedPages, cartridge}
+use Rattle.trace.specs.Examples.{worked}
+use Rattle.text.specs.Digits.{before}
+use Rattle.text.specs.Examples.{workedLines}
+use Rattle.text.specs.Lines.{line}
+use Rattle.transcript.specs.Told.{toldFrom}
+
+pub worked-lines : toldFrom 22 worked 0 0 (loadCall cartridge false Horizontal .state) cartridge ≡ workedLines
+unfolding nextTile tileRefused tilesOk spriteFetch isFirst isPrefetched columnOf lineRefused counterRefused detectorOk tick again matchesAfter isLine meets seenAt offsetOf byteAt storedAt pageStored all prgShowsAs chrShowsAs wordNumber pageOf pageStart windowPage written regsOk placed prgValues prgShown windowsMapped exramPage windowPages chrNumber chrMapped selector namePage namesMapped sameLengths gateOf lengthsOk inRange chosen ppuAfter splitAfter irqAfter prgBanksAfter chrBanksAfter pageAnswer registerRead irqRead cpuAnswer prgPagesAfter chrPagesAfter registerWritten latched cpuStored cacheAfter ppuSeen splitSeen countedServed loadedState loadCall cpuRead cpuWrite clockCall statusTold detectorTold ppuRegisterCall countedCall ppuFetch chrAnswer grouped numeral limited numbered filled recordAt countedPages cartridge before line toldFrom
+worked-lines = refl
