@@ -1,5 +1,5 @@
 // Traces: the calls of a session as bytes, read record by record. 01, "Trace". What the bytes mean stands in specs/: Numbers.antt for the
-// numbers, Records.antt for the kinds and the records, Promise.antt for what follows from that, Examples.antt for worked cases, Cartridge.antt for
+// numbers, Records.antt for the kinds and the records, Refusals.antt for 9 and 10, Promise.antt for what follows from that, Examples.antt for worked cases, Cartridge.antt for
 // the cartridge that the program `replay` plays a trace over.
 ghost use mathlib.Core.Path.{_≡_};
 ghost use Rattle.trace.specs.Records.{kindOf, tooLong};
