@@ -2,12 +2,16 @@
 use Prim.Native.Nat.{ℕ, zero, suc, _+_, _<_, _≤_}
 use mathlib.Core.Bool.{Bool, true, false, _&&_}
 use mathlib.Core.List.{List, [], _∷_}
-use mathlib.Core.Path.{_≡_, refl, ap}
+use mathlib.Core.Path.{_≡_, refl, ap, _∙_}
 use native.Mathlib.Numerals.{add-one}
 use native.Mathlib.Nat.{zero-add}
-use lib.ListN.{length, set, length-set}
+use native.Mathlib.Omega.{arith}
+use borrow.Author.Tests.{eqb-true, eqb-false}
+use lib.Dec.{eqb}
+use lib.ListN.{length, getD, set, length-set}
+use lib.Seq.{getD-set-same, getD-set-other}
 use Rattle.memory.specs.Tables.{all}
-use Rattle.memory.proofs.Tests.{and-left, and-right, and-both}
+use Rattle.memory.proofs.Tests.{split, and-left, and-right, and-both}
 use Rattle.banks.specs.Placed.{placed}
 
 pub placed-none : {A : Type 0} (l : List A) (at : ℕ) (f : ℕ → A) → l ≡ placed l at f 0
@@ -22,6 +26,16 @@ pub length-placed : {A : Type 0} (l : List A) (at : ℕ) (f : ℕ → A) (n : �
 unfolding placed
 length-placed l at f zero = refl
 length-placed l at f (suc n) = rw (length-set (placed l at f n) (at + n) (f n)) (length-placed l at f n)
+
+-- What is read at a new entry, of those from the table's first place on.
+pub entry-placed : {A : Type 0} (l : List A) (f : ℕ → A) (n i : ℕ) (d : A) → i < n → n ≤ length l → getD (placed l 0 f n) i d ≡ f i
+unfolding placed
+entry-placed l f zero i d h k = absurd (omega (arith, h))
+entry-placed l f (suc n) i d h k =
+    rw (zero-add n)
+    (split (eqb i n)
+    (λ t. rw (eqb-true i n t) (getD-set-same (placed l 0 f n) n (f n) d (rw (length-placed l 0 f n) (omega (arith, k)))))
+    (λ t. getD-set-other (placed l 0 f n) n i (f n) d (eqb-false i n t) ∙ entry-placed l f n i d (omega (arith, h, eqb-false i n t)) (omega (arith, k))))
 
 -- A test of all entries stands where each new entry passes it.
 pub all-set : {A : Type 0} (t : A → Bool) (l : List A) (i : ℕ) (x : A) → all t l ≡ true → t x ≡ true → all t (set l i x) ≡ true

@@ -1,2 +1,3 @@
 pub mod Peeks
 pub mod Fetch
+pub mod Promise
