@@ -1,14 +1,16 @@
 //! Case files: the fixed list as text, as bytes, and its answers.
 //!
-//! Text: one case a line, `name | cartridge | hex of the trace`; `#` starts a comment line, and a
-//! line `#: words` above a case spells its trace (see `spell`). Bytes, for each case: 1; PRG-ROM
-//! length / 8,192 in two bytes, low one first; CHR length / 1,024 likewise; PRG-RAM length / 1,024
-//! in one; 1 if CHR is writable, else 0; the mirroring's number; the fill seed; the trace's length
-//! in two bytes, low one first; the trace.
+//! Text: one case a line, `name | cartridge | hex of the trace`, and `| peeks` where peeks follow the
+//! trace (see `peeks`); `#` starts a comment line, and a line `#: words` above a case spells its
+//! trace (see `spell`). Bytes, for each case: 1, or 2 if it has peeks; PRG-ROM length / 8,192 in two
+//! bytes, low one first; CHR length / 1,024 likewise; PRG-RAM length / 1,024 in one; 1 if CHR is
+//! writable, else 0; the mirroring's number; the fill seed; the trace's length in two bytes, low one
+//! first; the trace; of a case with peeks their number in one byte, and the peeks.
 
 use crate::{
     board::Board,
     cartridge::{Cartridge, MIRRORINGS},
+    peeks::{self, Peek},
     replay, spell, windows,
 };
 use std::{fs, path::Path};
@@ -18,6 +20,8 @@ pub struct Case {
     pub name: String,
     pub cartridge: Cartridge,
     pub trace: Vec<u8>,
+    /// What is looked at after the trace.
+    pub peeks: Vec<Peek>,
     /// The trace in words, where the text gives them.
     pub words: Option<String>,
 }
@@ -39,23 +43,28 @@ pub fn parse(text: &str) -> Result<Vec<Case>, String> {
 
 fn parse_case(line: &str, words: Option<String>) -> Result<Case, String> {
     let parts: Vec<&str> = line.split('|').map(str::trim).collect();
-    let [name, cartridge, hex] = parts[..] else {
-        return Err("name | cartridge | hex".to_string());
+    let (name, cartridge, hex, peeks) = match parts[..] {
+        [name, cartridge, hex] => (name, cartridge, hex, ""),
+        [name, cartridge, hex, peeks] => (name, cartridge, hex, peeks),
+        _ => return Err("name | cartridge | hex | peeks".to_string()),
     };
     Ok(Case {
         name: name.to_string(),
         cartridge: Cartridge::parse(cartridge)?,
         trace: spell::from_hex(hex)?,
+        peeks: peeks::parse(peeks)?,
         words,
     })
 }
 
 impl Case {
-    /// The lines that replay prints for this case.
+    /// The lines that replay prints for this case, and those of its peeks.
     pub fn answers(&self) -> Result<String, String> {
         let refused = |refusal| format!("{}: load is refused, {refusal:?}", self.name);
         let mut board = Board::load(self.cartridge).map_err(refused)?;
-        Ok(replay::lines(&mut board, &self.trace))
+        let mut out = replay::lines(&mut board, &self.trace);
+        peeks::lines(&board, &self.peeks, &mut out);
+        Ok(out)
     }
 
     /// The case in bytes.
@@ -64,7 +73,7 @@ impl Case {
         let two = |number: usize| u16::try_from(number).expect("two bytes").to_le_bytes();
         let one = |number: usize| u8::try_from(number).expect("one byte");
         let mirroring = MIRRORINGS.iter().position(|(m, _)| *m == c.mirroring);
-        out.push(1);
+        out.push(if self.peeks.is_empty() { 1 } else { 2 });
         out.extend(two(c.prg / 8_192));
         out.extend(two(c.chr / 1_024));
         out.push(one(c.ram / 1_024));
@@ -73,6 +82,10 @@ impl Case {
         out.push(c.fill);
         out.extend(two(self.trace.len()));
         out.extend(&self.trace);
+        if !self.peeks.is_empty() {
+            out.push(one(self.peeks.len()));
+            self.peeks.iter().for_each(|peek| peek.write(out));
+        }
     }
 }
 
@@ -85,7 +98,13 @@ pub fn read(bytes: &[u8]) -> Result<Vec<Case>, String> {
         let (head, after) = rest.split_at_checked(11).ok_or(format!("{name} is cut"))?;
         let two = |at: usize| usize::from(u16::from_le_bytes([head[at], head[at + 1]]));
         let cut = after.split_at_checked(two(9));
-        let (trace, after) = cut.ok_or(format!("{name} is cut"))?;
+        let (trace, mut after) = cut.ok_or(format!("{name} is cut"))?;
+        let mut looked: &[u8] = &[];
+        if head[0] == 2 {
+            let (&count, rest) = after.split_first().ok_or(format!("{name} is cut"))?;
+            let cut = rest.split_at_checked(usize::from(count) * 3);
+            (looked, after) = cut.ok_or(format!("{name} is cut"))?;
+        }
         let mirroring = MIRRORINGS.get(usize::from(head[7]));
         let cartridge = Cartridge {
             prg: two(1) * 8_192,
@@ -100,6 +119,7 @@ pub fn read(bytes: &[u8]) -> Result<Vec<Case>, String> {
             name,
             cartridge,
             trace: trace.to_vec(),
+            peeks: peeks::read(looked)?,
             words: None,
         });
         rest = after;

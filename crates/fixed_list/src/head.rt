@@ -7,6 +7,7 @@ use registers::Mirroring;
 pub const LENGTH: usize = 11;
 
 pub struct Head {
+    pub peeked: bool,
     pub prg: usize,
     pub chr: usize,
     pub ram: usize,
@@ -23,7 +24,7 @@ pub fn wide(x: u8) -> usize
 }
 
 // A number of two bytes, low one first.
-fn two(low: u8, high: u8) -> usize
+pub fn two(low: u8, high: u8) -> usize
     ensures { λ r. ⌜ r ≤ 65535 ⌝ }
 {
     wide(low) + wide(high) * 256
@@ -44,6 +45,7 @@ pub fn head_of(b: &[u8]) -> Head
     requires { ⌜ 11 ≤ length (now b) ⌝ }
     ensures { λ r. ⌜ r .trace ≤ 65535 ⌝ }
 {
+    let peeked = b[0] == 2;
     let prg = two(b[1], b[2]) * 8192;
     let chr = two(b[3], b[4]) * 1024;
     let ram = wide(b[5]) * 1024;
@@ -52,6 +54,7 @@ pub fn head_of(b: &[u8]) -> Head
     let seed = b[8];
     let trace = two(b[9], b[10]);
     Head {
+        peeked,
         prg,
         chr,
         ram,
@@ -60,4 +63,18 @@ pub fn head_of(b: &[u8]) -> Head
         seed,
         trace,
     }
+}
+
+// Where a case ends whose trace ends at `end`: there, or past its peeks, a byte with their number and three bytes for each.
+pub fn last_of(b: &[u8], peeked: bool, end: usize) -> usize
+    requires { ⌜ end ≤ 65546 ⌝ }
+    ensures { λ r. ⌜ end ≤ r ⌝ }
+{
+    if !peeked {
+        return end;
+    }
+    if end < b.len() {
+        return end + 1 + wide(b[end]) * 3;
+    }
+    end + 1
 }
