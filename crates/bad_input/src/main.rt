@@ -1,5 +1,5 @@
-// What bad input gets: wrong lengths, each range of the state broken one at a time, each audio register. One line each: what was tried, and the
-// refusal's number or `taken`. The file `stdout` is written from document 01's table of refusals.
+// What bad input gets: wrong lengths, each range of the state broken one at a time, each audio register, fetches at the counters' limits. One line
+// each: what was tried, and the refusal's number or `taken`. The file `stdout` is written from document 01's table of refusals.
 use answers::Answer;
 use memory::CpuAddr;
 use registers::Mirroring;
@@ -8,9 +8,10 @@ use say::say_number;
 use state::State;
 
 mod broken;
+mod counters;
 
 // An answer, as one line.
-fn told(label: &[u8], answer: Answer) {
+pub fn told(label: &[u8], answer: Answer) {
     say(label);
     if let Answer::Refused(refusal) = answer {
         say(b": ");
@@ -36,25 +37,43 @@ pub fn read_over(
     told(label, answer);
 }
 
+// The same over buffers of the recorded lengths.
+pub fn read_state(label: &[u8], s: State) {
+    let prg = [0u8; 8192];
+    let chr = [0u8; 8192];
+    let ram = [0u8; 8192];
+    let ciram = [0u8; 2048];
+    let exram = [0u8; 1024];
+    read_over(label, s, &prg, &chr, &ram, &ciram, &exram);
+}
+
 fn address(label: &[u8], addr: u16) {
     say(label);
     say_number(addr as u64);
 }
 
-// A read, a peek and a write, over buffers of the recorded lengths.
-fn audio(s: State, addr: u16) {
+// A read and a peek, over buffers of the recorded lengths.
+fn audio_read(s: State, addr: u16) {
+    let prg = [0u8; 8192];
+    let chr = [0u8; 8192];
+    let ram = [0u8; 8192];
+    let ciram = [0u8; 2048];
+    let exram = [0u8; 1024];
+    let read = board::cpu_side::cpu_read(s, &prg, &chr, &ram, &ciram, &exram, CpuAddr(addr));
+    let answer = read.answer;
+    address(b"read ", addr);
+    told(b"", answer);
+    let peeked = board::cpu_side::cpu_peek(s, &prg, &chr, &ram, &ciram, &exram, CpuAddr(addr));
+    address(b"peek ", addr);
+    told(b"", peeked);
+}
+
+fn audio_write(s: State, addr: u16) {
     let prg = [0u8; 8192];
     let mut chr = [0u8; 8192];
     let mut ram = [0u8; 8192];
     let mut ciram = [0u8; 2048];
     let mut exram = [0u8; 1024];
-    let read = board::cpu_side::cpu_read(s, &prg, &chr, &ram, &ciram, &exram, CpuAddr(addr));
-    let read_answer = read.answer;
-    address(b"read ", addr);
-    told(b"", read_answer);
-    let peeked = board::cpu_side::cpu_peek(s, &prg, &chr, &ram, &ciram, &exram, CpuAddr(addr));
-    address(b"peek ", addr);
-    told(b"", peeked);
     let written = board::cpu_side::cpu_write(
         s,
         &prg,
@@ -65,9 +84,14 @@ fn audio(s: State, addr: u16) {
         CpuAddr(addr),
         1,
     );
-    let write_answer = written.answer;
+    let answer = written.answer;
     address(b"write ", addr);
-    told(b"", write_answer);
+    told(b"", answer);
+}
+
+fn audio(s: State, addr: u16) {
+    audio_read(s, addr);
+    audio_write(s, addr);
 }
 
 // $5000-$5016, at the audio registers and beside them.
@@ -78,14 +102,39 @@ fn audio_registers(s: State) {
 }
 
 // Each buffer in turn without a byte.
-fn lengths(s: State, prg: &[u8], chr: &[u8], ram: &[u8], ciram: &[u8], exram: &[u8]) {
+fn roms(s: State) {
     let none: [u8; 0] = [];
-    read_over(b"all lengths as recorded", s, prg, chr, ram, ciram, exram);
-    read_over(b"PRG-ROM of no byte", s, &none, chr, ram, ciram, exram);
-    read_over(b"CHR of no byte", s, prg, &none, ram, ciram, exram);
-    read_over(b"PRG-RAM of no byte", s, prg, chr, &none, ciram, exram);
-    read_over(b"CIRAM of no byte", s, prg, chr, ram, &none, exram);
-    read_over(b"ExRAM of no byte", s, prg, chr, ram, ciram, &none);
+    let full = [0u8; 8192];
+    let ciram = [0u8; 2048];
+    let exram = [0u8; 1024];
+    read_over(
+        b"PRG-ROM of no byte",
+        s,
+        &none,
+        &full,
+        &full,
+        &ciram,
+        &exram,
+    );
+    read_over(b"CHR of no byte", s, &full, &none, &full, &ciram, &exram);
+}
+
+fn rams(s: State) {
+    let none: [u8; 0] = [];
+    let full = [0u8; 8192];
+    let ciram = [0u8; 2048];
+    let exram = [0u8; 1024];
+    read_over(
+        b"PRG-RAM of no byte",
+        s,
+        &full,
+        &full,
+        &none,
+        &ciram,
+        &exram,
+    );
+    read_over(b"CIRAM of no byte", s, &full, &full, &full, &none, &exram);
+    read_over(b"ExRAM of no byte", s, &full, &full, &full, &ciram, &none);
 }
 
 fn load_of(label: &[u8], prg: &[u8], chr: &[u8], ram: &[u8], ciram: &[u8], exram: &[u8]) {
@@ -94,39 +143,70 @@ fn load_of(label: &[u8], prg: &[u8], chr: &[u8], ram: &[u8], ciram: &[u8], exram
     told(label, answer);
 }
 
-fn main() {
-    let prg = [0u8; 8192];
-    let chr = [0u8; 8192];
-    let ram = [0u8; 8192];
+fn loads_of_roms() {
+    let full = [0u8; 8192];
+    let odd = [0u8; 4096];
     let ciram = [0u8; 2048];
     let exram = [0u8; 1024];
+    load_of(b"load", &full, &full, &full, &ciram, &exram);
+    load_of(b"load PRG-ROM 4,096", &odd, &full, &full, &ciram, &exram);
+    load_of(
+        b"load CHR 2,000",
+        &full,
+        &odd[..2000],
+        &full,
+        &ciram,
+        &exram,
+    );
+}
+
+fn loads_of_rams() {
+    let full = [0u8; 8192];
     let odd = [0u8; 4096];
-    let none: [u8; 0] = [];
-    load_of(b"load", &prg, &chr, &ram, &ciram, &exram);
-    load_of(b"load PRG-ROM 4,096", &odd, &chr, &ram, &ciram, &exram);
-    load_of(b"load CHR 2,000", &prg, &odd[..2000], &ram, &ciram, &exram);
+    let ciram = [0u8; 2048];
+    let exram = [0u8; 1024];
     load_of(
         b"load PRG-RAM 2,000",
-        &prg,
-        &chr,
+        &full,
+        &full,
         &odd[..2000],
         &ciram,
         &exram,
     );
-    load_of(b"load CIRAM 4,096", &prg, &chr, &ram, &odd, &exram);
-    load_of(b"load ExRAM 4,096", &prg, &chr, &ram, &ciram, &odd);
+    load_of(b"load CIRAM 4,096", &full, &full, &full, &odd, &exram);
+    load_of(b"load ExRAM 4,096", &full, &full, &full, &ciram, &odd);
+}
+
+fn load_of_nothing() {
+    let none: [u8; 0] = [];
     load_of(b"load of nothing", &none, &none, &none, &none, &none);
+}
+
+fn loaded() -> State {
+    let full = [0u8; 8192];
+    let ciram = [0u8; 2048];
+    let exram = [0u8; 1024];
     let outcome = board::loads::load(
-        &prg,
-        &chr,
-        &ram,
+        &full,
+        &full,
+        &full,
         &ciram,
         &exram,
         false,
         Mirroring::Horizontal,
     );
-    let s = outcome.state;
-    lengths(s, &prg, &chr, &ram, &ciram, &exram);
-    broken::each(s, &prg, &chr, &ram, &ciram, &exram);
+    outcome.state
+}
+
+fn main() {
+    loads_of_roms();
+    loads_of_rams();
+    load_of_nothing();
+    let s = loaded();
+    read_state(b"all lengths as recorded", s);
+    roms(s);
+    rams(s);
+    broken::each(s);
     audio_registers(s);
+    counters::each(s);
 }
