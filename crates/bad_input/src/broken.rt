@@ -39,7 +39,10 @@ fn registers(s: State) {
     t = s;
     t.regs.fill_attr = 4;
     read_state(b"fill attribute 4", t);
-    t = s;
+}
+
+fn narrow_registers(s: State) {
+    let mut t = s;
     t.regs.protect_a = 4;
     read_state(b"first protect byte 4", t);
     t = s;
@@ -62,17 +65,15 @@ fn recorded(s: State) {
     t = s;
     t.lengths.prg = 0;
     read_state(b"another length", t);
-    no_rom(b"PRG-ROM of 0 recorded and lent", t);
-}
-
-// A read with no PRG-ROM lent.
-fn no_rom(label: &[u8], s: State) {
-    let none: [u8; 0] = [];
-    let chr = [0u8; 8192];
-    let ram = [0u8; 8192];
-    let ciram = [0u8; 2048];
-    let exram = [0u8; 1024];
-    read_over(label, s, &none, &chr, &ram, &ciram, &exram);
+    read_over(
+        b"PRG-ROM of 0 recorded and lent",
+        t,
+        0,
+        8192,
+        8192,
+        2048,
+        1024,
+    );
 }
 
 // Page words that a table may not show: another table's buffer, a page past the buffer's end, CHR-ROM marked writable.
@@ -104,6 +105,7 @@ fn chr_pages(s: State) {
 pub fn each(s: State) {
     groups(s);
     registers(s);
+    narrow_registers(s);
     recorded(s);
     prg_pages(s);
     chr_pages(s);

@@ -81,6 +81,20 @@ fn records(
 }
 
 // The trace, then the peeks over the state that it leaves.
+fn play_loaded(
+    trace: &[u8],
+    looked: &[u8],
+    loaded: State,
+    prg: &[u8],
+    chr: &mut [u8],
+    ram: &mut [u8],
+    ciram: &mut [u8],
+    exram: &mut [u8],
+) {
+    let after = records(trace, loaded, prg, chr, ram, ciram, exram);
+    peeks::each(looked, after, prg, chr, ram, ciram, exram);
+}
+
 pub fn play(
     trace: &[u8],
     looked: &[u8],
@@ -98,7 +112,5 @@ pub fn play(
         lines::load_refused(why);
         return;
     }
-    let s = outcome.state;
-    let after = records(trace, s, prg, chr, ram, ciram, exram);
-    peeks::each(looked, after, prg, chr, ram, ciram, exram);
+    play_loaded(trace, looked, outcome.state, prg, chr, ram, ciram, exram);
 }
