@@ -6,8 +6,13 @@ use registers::Mirroring;
 // How many bytes those are.
 pub const LENGTH: usize = 11;
 
+// What follows the trace of a case, by the case's first byte.
+pub const PEEKS: u8 = 2;
+
+pub const COUNTERS: u8 = 3;
+
 pub struct Head {
-    pub peeked: bool,
+    pub kind: u8,
     pub prg: usize,
     pub chr: usize,
     pub ram: usize,
@@ -45,7 +50,7 @@ pub fn head_of(b: &[u8]) -> Head
     requires { ⌜ 11 ≤ length (now b) ⌝ }
     ensures { λ r. ⌜ r .trace ≤ 65535 ⌝ }
 {
-    let peeked = b[0] == 2;
+    let kind = b[0];
     let prg = two(b[1], b[2]) * 8192;
     let chr = two(b[3], b[4]) * 1024;
     let ram = wide(b[5]) * 1024;
@@ -54,7 +59,7 @@ pub fn head_of(b: &[u8]) -> Head
     let seed = b[8];
     let trace = two(b[9], b[10]);
     Head {
-        peeked,
+        kind,
         prg,
         chr,
         ram,
@@ -65,12 +70,16 @@ pub fn head_of(b: &[u8]) -> Head
     }
 }
 
-// Where a case ends whose trace ends at `end`: there, or past its peeks, a byte with their number and three bytes for each.
-pub fn last_of(b: &[u8], peeked: bool, end: usize) -> usize
+// Where a case ends whose trace ends at `end`: there, or past six bytes of counters, or past its peeks, a byte with their number and three bytes for
+// each.
+pub fn last_of(b: &[u8], kind: u8, end: usize) -> usize
     requires { ⌜ end ≤ 65546 ⌝ }
     ensures { λ r. ⌜ end ≤ r ⌝ }
 {
-    if !peeked {
+    if kind == COUNTERS {
+        return end + 6;
+    }
+    if kind != PEEKS {
         return end;
     }
     if end < b.len() {

@@ -6,6 +6,7 @@ ghost use lib.ListN.{length};
 use head::Head;
 use trace::too_long;
 
+mod counters;
 mod fill;
 mod head;
 mod lines;
@@ -16,13 +17,14 @@ mod play;
 fn play_over(
     head: Head,
     trace: &[u8],
-    looked: &[u8],
+    after: &[u8],
     prg: &mut [u8],
     chr: &mut [u8],
     ram: &mut [u8],
 ) {
     let mut ciram = [0u8; 2048];
     let mut exram = [0u8; 1024];
+    let kind = head.kind;
     let seed = head.seed;
     fill::fill(prg, seed, 0);
     fill::fill(chr, seed, 1);
@@ -32,8 +34,9 @@ fn play_over(
     let writable = head.writable;
     let mirroring = head.mirroring;
     play::play(
+        kind,
         trace,
-        looked,
+        after,
         prg,
         chr,
         ram,
@@ -48,7 +51,7 @@ fn play_over(
 fn play_case(
     head: Head,
     trace: &[u8],
-    looked: &[u8],
+    after: &[u8],
     prg: &mut [u8],
     chr: &mut [u8],
     ram: &mut [u8],
@@ -75,7 +78,7 @@ fn play_case(
     play_over(
         head,
         trace,
-        looked,
+        after,
         &mut prg[..p],
         &mut chr[..c],
         &mut ram[..r],
@@ -92,14 +95,14 @@ fn first_case(rest: &[u8], prg: &mut [u8], chr: &mut [u8], ram: &mut [u8]) -> us
     }
     let h = head::head_of(rest);
     let end = head::LENGTH + h.trace;
-    let last = head::last_of(rest, h.peeked, end);
+    let last = head::last_of(rest, h.kind, end);
     if rest.len() < last {
         say::say(b"cut\n");
         return 0;
     }
     let trace = &rest[head::LENGTH..end];
-    let looked = &rest[end..last];
-    play_case(h, trace, looked, prg, chr, ram);
+    let after = &rest[end..last];
+    play_case(h, trace, after, prg, chr, ram);
     last
 }
 

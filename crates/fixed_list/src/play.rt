@@ -1,4 +1,6 @@
 // A trace, played record by record over a board that is loaded first.
+use crate::counters;
+use crate::head::PEEKS;
 use crate::lines;
 use crate::peeks;
 use answers::Answer;
@@ -80,10 +82,11 @@ fn records(
     s
 }
 
-// The trace, then the peeks over the state that it leaves.
+// What follows the trace in its case: counters to start from, or peeks over the state that the trace leaves.
 fn play_loaded(
+    kind: u8,
     trace: &[u8],
-    looked: &[u8],
+    after: &[u8],
     loaded: State,
     prg: &[u8],
     chr: &mut [u8],
@@ -91,13 +94,17 @@ fn play_loaded(
     ciram: &mut [u8],
     exram: &mut [u8],
 ) {
-    let after = records(trace, loaded, prg, chr, ram, ciram, exram);
-    peeks::each(looked, after, prg, chr, ram, ciram, exram);
+    let s = counters::start(kind, after, loaded);
+    let t = records(trace, s, prg, chr, ram, ciram, exram);
+    if kind == PEEKS {
+        peeks::each(after, t, prg, chr, ram, ciram, exram);
+    }
 }
 
 pub fn play(
+    kind: u8,
     trace: &[u8],
-    looked: &[u8],
+    after: &[u8],
     prg: &[u8],
     chr: &mut [u8],
     ram: &mut [u8],
@@ -112,5 +119,15 @@ pub fn play(
         lines::load_refused(why);
         return;
     }
-    play_loaded(trace, looked, outcome.state, prg, chr, ram, ciram, exram);
+    play_loaded(
+        kind,
+        trace,
+        after,
+        outcome.state,
+        prg,
+        chr,
+        ram,
+        ciram,
+        exram,
+    );
 }
