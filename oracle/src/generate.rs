@@ -34,6 +34,8 @@ pub fn cases(kind: &str, seed: u64, count: u64, records: usize) -> Option<Vec<Ca
             name: format!("{kind} {number}"),
             cartridge,
             trace: trace(kind, random.next(), records)?,
+            counters: None,
+            peeks: Vec::new(),
             words: None,
         })
     };

@@ -19,6 +19,7 @@ pub mod cartridge;
 pub mod cases;
 pub mod cli;
 pub mod generate;
+pub mod peeks;
 pub mod refusal;
 pub mod replay;
 pub mod show;

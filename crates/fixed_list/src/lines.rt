@@ -1,68 +1,52 @@
-// The lines of `replay`. 01, "Trace": "One line per record: record number, kind, answer, interrupt 0 or 1."
+// The lines of `replay`, written by the crate `text` and printed. 01, "Trace": "One line per record: record number, kind, answer, interrupt 0 or 1."
 use answers::Answer;
 use answers::Refusal;
 use board::Interrupt;
 use say::say;
+use say::say_first;
 use say::say_number;
-use trace::Call;
+use state::State;
 
-fn refusal(why: Refusal) {
-    say_number(answers::number_of(why) as u64);
-    say(b"\n");
-}
-
-fn answer(a: Answer) {
-    let text = [b' ', answers::letter_of(a)];
-    say(&text);
-    if answers::has_value(a) {
-        say(b" ");
-        say_number(answers::value_of(a) as u64);
-    }
-}
-
-fn interrupt(i: Interrupt) {
+// The letter of an answer, with 128 more where the interrupt is up; a letter that no line has where it cannot be told.
+fn first_byte(a: Answer, i: Interrupt) -> u8 {
+    let letter = answers::letter_of(a) % 128;
     match i {
-        Interrupt::Up => say(b" 1\n"),
-        Interrupt::Down => say(b" 0\n"),
-        Interrupt::Refused(_) => say(b" ?\n"),
+        Interrupt::Up => letter + 128,
+        Interrupt::Down => letter,
+        Interrupt::Refused(_) => b'?',
     }
 }
 
-fn record(count: u64, call: Call) {
-    say_number(count);
-    say(b" ");
-    say_number(trace::kind_of(call) as u64);
-}
-
-// The line of an accepted call.
-pub fn accepted(count: u64, call: Call, a: Answer, i: Interrupt) {
-    record(count, call);
-    answer(a);
-    interrupt(i);
-}
-
-// The line of a refused call.
-pub fn refused(count: u64, call: Call, a: Answer) {
-    record(count, call);
-    answer(a);
-    say(b"\n");
+// The line of a call; whether the call was accepted.
+pub fn call(number: u32, kind: u8, a: Answer, s: State) -> bool {
+    let mut out = [0u8; 32];
+    if let Answer::Refused(why) = a {
+        let n = text::lines::refused_line(&mut out, 0, number, kind, why);
+        say_first(&out, n);
+        return false;
+    }
+    let first = first_byte(a, board::whole::interrupt_up(s));
+    let n = text::lines::logged_line(&mut out, 0, number, kind, first, answers::value_of(a));
+    say_first(&out, n);
+    true
 }
 
 // The line of a record that cannot be read.
-pub fn unreadable(count: u64, why: Refusal) {
-    say_number(count);
-    say(b" ? ");
-    refusal(why);
+pub fn unreadable(number: u32, why: Refusal) {
+    let mut out = [0u8; 32];
+    let n = text::lines::unreadable_line(&mut out, 0, number, why);
+    say_first(&out, n);
 }
 
-pub fn end(count: u64) {
-    say(b"end ");
-    say_number(count);
-    say(b"\n");
+pub fn end(count: u32) {
+    let mut out = [0u8; 32];
+    let n = text::lines::end_line(&mut out, 0, count);
+    say_first(&out, n);
 }
 
 // The line of a refused load.
 pub fn load_refused(why: Refusal) {
     say(b"load ");
-    refusal(why);
+    say_number(answers::number_of(why) as u64);
+    say(b"\n");
 }

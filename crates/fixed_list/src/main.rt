@@ -6,15 +6,25 @@ ghost use lib.ListN.{length};
 use head::Head;
 use trace::too_long;
 
+mod counters;
 mod fill;
 mod head;
 mod lines;
+mod peeks;
 mod play;
 
 // The case over buffers of its own lengths.
-fn play_over(head: Head, trace: &[u8], prg: &mut [u8], chr: &mut [u8], ram: &mut [u8]) {
+fn play_over(
+    head: Head,
+    trace: &[u8],
+    after: &[u8],
+    prg: &mut [u8],
+    chr: &mut [u8],
+    ram: &mut [u8],
+) {
     let mut ciram = [0u8; 2048];
     let mut exram = [0u8; 1024];
+    let kind = head.kind;
     let seed = head.seed;
     fill::fill(prg, seed, 0);
     fill::fill(chr, seed, 1);
@@ -24,7 +34,9 @@ fn play_over(head: Head, trace: &[u8], prg: &mut [u8], chr: &mut [u8], ram: &mut
     let writable = head.writable;
     let mirroring = head.mirroring;
     play::play(
+        kind,
         trace,
+        after,
         prg,
         chr,
         ram,
@@ -36,7 +48,14 @@ fn play_over(head: Head, trace: &[u8], prg: &mut [u8], chr: &mut [u8], ram: &mut
 }
 
 // The case over the first bytes of buffers that are as long as any case needs.
-fn play_case(head: Head, trace: &[u8], prg: &mut [u8], chr: &mut [u8], ram: &mut [u8]) {
+fn play_case(
+    head: Head,
+    trace: &[u8],
+    after: &[u8],
+    prg: &mut [u8],
+    chr: &mut [u8],
+    ram: &mut [u8],
+) {
     let p = head.prg;
     let c = head.chr;
     let r = head.ram;
@@ -56,7 +75,14 @@ fn play_case(head: Head, trace: &[u8], prg: &mut [u8], chr: &mut [u8], ram: &mut
         say::say(b"? 11\n");
         return;
     }
-    play_over(head, trace, &mut prg[..p], &mut chr[..c], &mut ram[..r]);
+    play_over(
+        head,
+        trace,
+        after,
+        &mut prg[..p],
+        &mut chr[..c],
+        &mut ram[..r],
+    );
 }
 
 // Plays the case at the start of `rest`; how many bytes it takes, 0 where it is cut.
@@ -69,12 +95,15 @@ fn first_case(rest: &[u8], prg: &mut [u8], chr: &mut [u8], ram: &mut [u8]) -> us
     }
     let h = head::head_of(rest);
     let end = head::LENGTH + h.trace;
-    if rest.len() < end {
+    let last = head::last_of(rest, h.kind, end);
+    if rest.len() < last {
         say::say(b"cut\n");
         return 0;
     }
-    play_case(h, &rest[head::LENGTH..end], prg, chr, ram);
-    end
+    let trace = &rest[head::LENGTH..end];
+    let after = &rest[end..last];
+    play_case(h, trace, after, prg, chr, ram);
+    last
 }
 
 fn play_all(cases: &[u8], prg: &mut [u8], chr: &mut [u8], ram: &mut [u8]) {

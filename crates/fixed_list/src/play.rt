@@ -1,9 +1,11 @@
 // A trace, played record by record over a board that is loaded first.
+use crate::counters;
+use crate::head::PEEKS;
 use crate::lines;
+use crate::peeks;
 use answers::Answer;
 use registers::Mirroring;
 use state::State;
-use trace::Call;
 use trace::Found;
 
 // What is left after a record: whether the replay goes on, from which place, over which state.
@@ -13,22 +15,11 @@ struct Turn {
     state: State,
 }
 
-// Prints the line of a call; whether the call was accepted.
-fn told(count: u64, call: Call, answer: Answer, s: State) -> bool {
-    if let Answer::Refused(_) = answer {
-        lines::refused(count, call, answer);
-        return false;
-    }
-    let interrupt = board::whole::interrupt_up(s);
-    lines::accepted(count, call, answer, interrupt);
-    true
-}
-
 // Plays the record at a place and prints its line, or the line of the end.
 fn played(
     trace: &[u8],
     at: usize,
-    count: u64,
+    count: u32,
     s: State,
     prg: &[u8],
     chr: &mut [u8],
@@ -58,7 +49,7 @@ fn played(
             let outcome = calls::call_on(s, prg, chr, ram, ciram, exram, call);
             let answer = outcome.answer;
             let after = outcome.state;
-            let going = told(count, call, answer, after);
+            let going = lines::call(count, trace::kind_of(call), answer, after);
             Turn {
                 going,
                 at: next,
@@ -68,7 +59,7 @@ fn played(
     }
 }
 
-// A trace of 8,192 bytes has at most as many records, and its end.
+// The state after the last record that was accepted. A trace of 8,192 bytes has at most as many records, and its end.
 fn records(
     trace: &[u8],
     loaded: State,
@@ -77,10 +68,10 @@ fn records(
     ram: &mut [u8],
     ciram: &mut [u8],
     exram: &mut [u8],
-) {
+) -> State {
     let mut s = loaded;
     let mut at = 0;
-    for count in 0..8193 {
+    for count in 0..8193u32 {
         let turn = played(trace, at, count, s, prg, chr, ram, ciram, exram);
         if !turn.going {
             break;
@@ -88,10 +79,32 @@ fn records(
         s = turn.state;
         at = turn.at;
     }
+    s
+}
+
+// What follows the trace in its case: counters to start from, or peeks over the state that the trace leaves.
+fn play_loaded(
+    kind: u8,
+    trace: &[u8],
+    after: &[u8],
+    loaded: State,
+    prg: &[u8],
+    chr: &mut [u8],
+    ram: &mut [u8],
+    ciram: &mut [u8],
+    exram: &mut [u8],
+) {
+    let s = counters::start(kind, after, loaded);
+    let t = records(trace, s, prg, chr, ram, ciram, exram);
+    if kind == PEEKS {
+        peeks::each(after, t, prg, chr, ram, ciram, exram);
+    }
 }
 
 pub fn play(
+    kind: u8,
     trace: &[u8],
+    after: &[u8],
     prg: &[u8],
     chr: &mut [u8],
     ram: &mut [u8],
@@ -106,6 +119,15 @@ pub fn play(
         lines::load_refused(why);
         return;
     }
-    let s = outcome.state;
-    records(trace, s, prg, chr, ram, ciram, exram);
+    play_loaded(
+        kind,
+        trace,
+        after,
+        outcome.state,
+        prg,
+        chr,
+        ram,
+        ciram,
+        exram,
+    );
 }

@@ -52,7 +52,7 @@ const DEMAND_3: [(&str, &str); 8] = [
 ];
 
 /// The examples at the edges that end in one answer.
-const EDGES: [(&str, &str); 9] = [
+const EDGES: [(&str, &str); 10] = [
     ("edge-prg-262144-last-bank", "R 254 0"),
     ("edge-5101-in-attribute-mode", "R 1 0"),
     ("edge-three-equal", "R 64 0"),
@@ -62,6 +62,7 @@ const EDGES: [(&str, &str); 9] = [
     ("edge-third-idle-clock", "R 0 0"),
     ("edge-mode-0-stores-0-then-9", "M 9 0"),
     ("edge-5001-taken-5002-refused", "2 ! 6"),
+    ("edge-line-65278-taken-65279-refused", "4 ! 7"),
 ];
 
 /// The last line of a named case, without the record number and, of an accepted one, the kind.

@@ -104,7 +104,15 @@ fn bytes_read_back() {
         for (left, right) in read.iter().zip(&cases) {
             assert_eq!(left.cartridge, right.cartridge, "{}", right.name);
             assert_eq!(left.trace, right.trace, "{}", right.name);
+            assert_eq!(left.peeks, right.peeks, "{}", right.name);
+            assert_eq!(left.counters, right.counters, "{}", right.name);
         }
     }
     assert!(cases::read(&[1, 0]).is_err());
+    let peeked = [2, 1, 0, 0, 0, 0, 0, 0, 0, 0, 0, 1, 2, 0, 4];
+    assert!(cases::read(&peeked).is_ok_and(|cases| cases.len() == 1 && cases[0].peeks.len() == 1));
+    assert!(cases::read(&peeked[..14]).is_err() && cases::read(&peeked[..11]).is_err());
+    let counted = [3, 1, 0, 0, 0, 0, 0, 0, 0, 0, 0, 1, 2, 0, 4, 0, 0];
+    assert!(cases::read(&counted).is_ok_and(|cases| cases[0].counters.is_some()));
+    assert!(cases::read(&counted[..16]).is_err());
 }

@@ -1,0 +1,37 @@
+// The counters of a case: the line counter in two bytes and the tile count in four, low ones first. No short trace comes near their limits.
+ghost use Prim.Native.Nat.{_<_};
+ghost use lib.ListN.{length};
+use crate::head::COUNTERS;
+use crate::head::two;
+use state::State;
+
+fn line_of(b: &[u8]) -> u16
+    requires { ⌜ 5 < length (now b) ⌝ }
+{
+    two(b[0], b[1]) as u16
+}
+
+fn tile_of(b: &[u8]) -> u32
+    requires { ⌜ 5 < length (now b) ⌝ }
+{
+    (two(b[2], b[3]) + two(b[4], b[5]) * 65536) as u32
+}
+
+fn in_frame(s: State, line: u16, tile: u32) -> State {
+    let mut t = s;
+    t.irq.in_frame = true;
+    t.irq.scanline = line;
+    t.ppu.tile_number = tile;
+    t
+}
+
+// The state in frame with the case's counters, where it has some.
+pub fn start(kind: u8, b: &[u8], s: State) -> State {
+    if kind != COUNTERS {
+        return s;
+    }
+    if b.len() < 6 {
+        return s;
+    }
+    in_frame(s, line_of(b), tile_of(b))
+}
