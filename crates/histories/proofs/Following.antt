@@ -23,7 +23,7 @@ use Rattle.board_ppu.specs.Fetch.{patternCall}
 use Rattle.trace.specs.declared.Call.{Call}
 use Rattle.trace.specs.declared.Call.the-variants.{Clock, CpuRead, CpuWrite, PpuRegister, PpuFetch, Reset, PpuWrite}
 use Rattle.lines.specs.Events.{Event}
-use Rattle.lines.specs.Events.Event.{cpuRead, cpuWrite, ppuWrite, other}
+use Rattle.lines.specs.Events.Event.{cpuRead, cpuWrite, ppuRegister, other}
 use Rattle.lines.specs.Machine.{step, Watched, eventRefused, tilesBy, Taken}
 use Rattle.histories.specs.Boards.{Board, Made, says, leaves, number}
 use Rattle.histories.specs.Boards.Made.{call, peek, ppu-peek, sprite-peek, mirroring-asked, interrupt-asked, cpu-page, ppu-page}
@@ -64,7 +64,7 @@ told-tiles p a v =
     pick-keeps (λ (q : PpuStatus). q .«tile_number» ≡ p .«tile_number») (eqb a 0x2000) refl
     (pick-keeps (λ (q : PpuStatus). q .«tile_number» ≡ p .«tile_number») (eqb a 0x2001) refl refl)
 
-register-steps : (s : State) (a v : ℕ) → seen (toldPpu s a v) ≡ moved (seen s) (ppuWrite a v)
+register-steps : (s : State) (a v : ℕ) → seen (toldPpu s a v) ≡ moved (seen s) (ppuRegister a v)
 unfolding detectorTold step tilesBy
 register-steps s a v = rw (told-tiles (s .ppu) a v)
 

@@ -10,7 +10,7 @@ use Rattle.scanline.specs.declared.Detector.{Detector}
 use Rattle.board.specs.Loads.{loadCall}
 use Rattle.trace.specs.declared.Call.the-variants.{Clock, CpuRead, CpuWrite, PpuRegister, PpuFetch, Reset, PpuWrite}
 use Rattle.lines.specs.Events.{Event}
-use Rattle.lines.specs.Events.Event.{clock, fetch, cpuRead, cpuWrite, ppuWrite, other}
+use Rattle.lines.specs.Events.Event.{clock, fetch, cpuRead, cpuWrite, ppuRegister, other}
 use Rattle.lines.specs.Promise.{Played}
 use Rattle.histories.specs.Boards.{Board, Made, says, leaves, number}
 use Rattle.histories.specs.Boards.Made.{call, peek, ppu-peek, sprite-peek, mirroring-asked, interrupt-asked, cpu-page, ppu-page}
@@ -45,7 +45,7 @@ abbrev pub event : Made → Event
 event (call Clock) = clock
 event (call (CpuRead a)) = cpuRead (a .0)
 event (call (CpuWrite a v)) = cpuWrite (a .0) v
-event (call (PpuRegister a v)) = ppuWrite (a .0) v
+event (call (PpuRegister a v)) = ppuRegister (a .0) v
 event (call (PpuFetch a)) = fetch (a .0)
 event (call Reset) = other
 event (call (PpuWrite a v)) = other

@@ -14,7 +14,7 @@ use Rattle.memory.proofs.Tests.{split}
 use Rattle.scanline.specs.declared.Detector.{Detector}
 use Rattle.scanline.specs.Steps.{again, matchesAfter, isLine}
 use Rattle.lines.specs.Events.{Event, isClock, fetches, writes, address, value, counts}
-use Rattle.lines.specs.Events.Event.{clock, fetch, cpuRead, cpuWrite, ppuWrite, other}
+use Rattle.lines.specs.Events.Event.{clock, fetch, cpuRead, cpuWrite, ppuRegister, other}
 use Rattle.lines.specs.Told.{History, idle, row, breaks, recent, alike, lineAt, lines, inFrame, lastWrite, hadBit7}
 use Rattle.lines.specs.Machine.{step, run}
 use Rattle.lines.proofs.Fields.{resets, strikes, stepped, by-fields}
@@ -68,7 +68,7 @@ strikes-line h d (fetch a) l =
 strikes-line h d clock l = refl
 strikes-line h d (cpuRead a) l = refl
 strikes-line h d (cpuWrite a v) l = refl
-strikes-line h d (ppuWrite a v) l = refl
+strikes-line h d (ppuRegister a v) l = refl
 strikes-line h d other l = refl
 
 module _ (h : History) (d : Detector) (e : Event) (g : Agrees h d) where

@@ -13,7 +13,7 @@ use Rattle.scanline.specs.Fetches.{countedAt}
 use Rattle.scanline.specs.Clock.{recordOf, third, tick}
 use Rattle.scanline.specs.Steps.{dark, matchesAfter, isLine, lineNumber, meets, seenAt}
 use Rattle.lines.specs.Events.{Event, isClock, fetches, reads, writes, darkens, address, value, counts, vectors, clears}
-use Rattle.lines.specs.Events.Event.{clock, fetch, cpuRead, cpuWrite, ppuWrite, other}
+use Rattle.lines.specs.Events.Event.{clock, fetch, cpuRead, cpuWrite, ppuRegister, other}
 use Rattle.lines.specs.Machine.{step}
 
 -- the call takes the detector out of frame, and the fetch before is none
@@ -50,5 +50,5 @@ by-fields d (cpuWrite a v) =
     split (eqb a 0x5203)
     (λ t. let q : a ≡ 0x5203 = eqb-true a 0x5203 t in rw q)
     (λ t. rw t (split (eqb a 0x5204) (λ u. rw u) (λ u. rw u)))
-by-fields d (ppuWrite a v) = split (eqb a 0x2001 && dark v) (λ t. rw t) (λ t. rw t)
+by-fields d (ppuRegister a v) = split (eqb a 0x2001 && dark v) (λ t. rw t) (λ t. rw t)
 by-fields d other = refl

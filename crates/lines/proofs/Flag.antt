@@ -15,7 +15,7 @@ use Rattle.scanline.specs.declared.Detector.{Detector}
 use Rattle.scanline.specs.Steps.{isLine, lineNumber, meets, interruptUp}
 use Rattle.scanline.proofs.StepLaws.{numbered}
 use Rattle.lines.specs.Events.{Event, fetches, reads, address, counts, vectors, clears}
-use Rattle.lines.specs.Events.Event.{clock, fetch, cpuRead, cpuWrite, ppuWrite, other}
+use Rattle.lines.specs.Events.Event.{clock, fetch, cpuRead, cpuWrite, ppuRegister, other}
 use Rattle.lines.specs.Told.{History, lineAt, lines, inFrame, lastWrite, noneOf, Hit, Flagged, hadBit7, Up, isValue, hits, flagTold, up}
 use Rattle.lines.specs.Machine.{step, run}
 use Rattle.lines.proofs.Fields.{strikes, strikesTarget, stepped, by-fields}
@@ -28,7 +28,7 @@ line-clears h (fetch a) p = refl
 line-clears h clock p = refl
 line-clears h (cpuRead a) p = cc
 line-clears h (cpuWrite a v) p = refl
-line-clears h (ppuWrite a v) p = refl
+line-clears h (ppuRegister a v) p = refl
 line-clears h other p = refl
 
 -- the detector's target against a line's number, and the history's; a target of 0, as load has it, is no line's number that is asked for

@@ -14,7 +14,7 @@ use Rattle.scanline.specs.Tiles.{tilesOk}
 use Rattle.scanline.specs.Ranges.{detectorOk}
 use Rattle.scanline.proofs.RangeLaws.{ranges-kept}
 use Rattle.lines.specs.Events.{Event}
-use Rattle.lines.specs.Events.Event.{clock, fetch, cpuRead, cpuWrite, ppuWrite, other}
+use Rattle.lines.specs.Events.Event.{clock, fetch, cpuRead, cpuWrite, ppuRegister, other}
 use Rattle.lines.specs.Told.{History}
 use Rattle.lines.specs.Machine.{step, Watched, eventRefused, tilesBy}
 use Rattle.lines.specs.Promise.{LedTo, StaysInRange}
@@ -33,7 +33,7 @@ module _ (w : Watched) where
       split (eqb a 0x5203)
       (λ t. rw t (ranges-kept .target v (w .detector) r))
       (λ t. rw t (split (eqb a 0x5204) (λ u. rw u (ranges-kept .enabled v (w .detector) r)) (λ u. rw u r)))
-  detector (ppuWrite a v) p r = split (eqb a 0x2001 && dark v) (λ t. rw t (ranges-kept .darkened (w .detector) r)) (λ t. rw t r)
+  detector (ppuRegister a v) p r = split (eqb a 0x2001 && dark v) (λ t. rw t (ranges-kept .darkened (w .detector) r)) (λ t. rw t r)
   detector other p r = r
 
   tiles : (e : Event) → eventRefused w e ≡ false → tilesOk (w .tiles) ≡ true → tilesOk (tilesBy w e) ≡ true
@@ -42,7 +42,7 @@ module _ (w : Watched) where
   tiles (fetch a) p r = split (countedAt a) (λ t. rw t (ranges-kept .tiles (w .detector) (w .tiles) a t p r)) (λ t. rw t r)
   tiles (cpuRead a) p r = r
   tiles (cpuWrite a v) p r = r
-  tiles (ppuWrite a v) p r = r
+  tiles (ppuRegister a v) p r = r
   tiles other p r = r
 
 kept : {h : History} {w : Watched} → LedTo h w → (detectorOk (w .detector) ≡ true) × (tilesOk (w .tiles) ≡ true)

@@ -10,7 +10,7 @@ use lib.Dec.{eqb}
 use Rattle.memory.specs.Words.{pick}
 use Rattle.memory.proofs.Tests.{split, and-left, and-right}
 use Rattle.lines.specs.Events.{Event, isClock, fetches, reads, darkens, address, counts, vectors}
-use Rattle.lines.specs.Events.Event.{clock, fetch, cpuRead, cpuWrite, ppuWrite, other}
+use Rattle.lines.specs.Events.Event.{clock, fetch, cpuRead, cpuWrite, ppuRegister, other}
 use Rattle.lines.specs.Told.{History, breaks, recent, alike, noneOf, lineAt}
 use Rattle.lines.specs.Sentence.{Before, Behind, Apart, Line, LineIsTheSentence}
 use Rattle.lines.specs.Sentence.Before.{here, further}
@@ -23,7 +23,7 @@ fetch-no-break (fetch a) h p = refl
 fetch-no-break clock h p = cc
 fetch-no-break (cpuRead a) h p = cc
 fetch-no-break (cpuWrite a v) h p = refl
-fetch-no-break (ppuWrite a v) h p = cc
+fetch-no-break (ppuRegister a v) h p = cc
 fetch-no-break other h p = refl
 
 -- the fetch before the end of a history is the newest of `recent`

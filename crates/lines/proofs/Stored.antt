@@ -14,7 +14,7 @@ use Rattle.scanline.specs.Fetches.{countedAt}
 use Rattle.scanline.specs.Clock.{tick}
 use Rattle.scanline.specs.Steps.{dark, meets, seenAt, interruptUp}
 use Rattle.lines.specs.Events.{Event}
-use Rattle.lines.specs.Events.Event.{clock, fetch, cpuRead, cpuWrite, ppuWrite, other}
+use Rattle.lines.specs.Events.Event.{clock, fetch, cpuRead, cpuWrite, ppuRegister, other}
 use Rattle.lines.specs.Told.{History}
 use Rattle.lines.specs.Machine.{step, run, irqPendingBy, irqPending}
 
@@ -39,7 +39,7 @@ onward d p (cpuWrite a v) q =
     (split (eqb a 0x5204)
     (λ u. rw u (split (d .pending) (λ w. rw w (split (bitSet v 7) (λ x. rw x) (λ x. rw x))) (λ w. rw w (split (bitSet v 7) (λ x. rw x) (λ x. rw x)))))
     (λ u. rw u))))
-onward d p (ppuWrite a v) q = q ∙ split (eqb a 0x2001 && dark v) (λ t. rw t) (λ t. rw t)
+onward d p (ppuRegister a v) q = q ∙ split (eqb a 0x2001 && dark v) (λ t. rw t) (λ t. rw t)
 onward d p other q = q
 
 pub stored : (h : History) → irqPending h ≡ interruptUp (run h)

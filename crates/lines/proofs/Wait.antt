@@ -9,7 +9,7 @@ use native.Mathlib.Omega.{arith}
 use Rattle.memory.specs.Words.{pick}
 use Rattle.memory.proofs.Tests.{split, and-left, and-right}
 use Rattle.lines.specs.Events.{Event, fetches, writes, clears}
-use Rattle.lines.specs.Events.Event.{clock, fetch, cpuRead, cpuWrite, ppuWrite, other}
+use Rattle.lines.specs.Events.Event.{clock, fetch, cpuRead, cpuWrite, ppuRegister, other}
 use Rattle.lines.specs.Told.{History, breaks, lineAt, lines, lastWrite, noneOf, Hit, Flagged, hadBit7, Waiting, newLines, calm, hits, flagTold, up}
 use Rattle.lines.proofs.Flag.{hits-hit, flag-flagged, flag-since}
 
@@ -44,7 +44,7 @@ line-writes h (fetch a) p l = refl
 line-writes h clock p l = refl
 line-writes h (cpuRead a) p l = refl
 line-writes h (cpuWrite a v) p l = cc
-line-writes h (ppuWrite a v) p l = refl
+line-writes h (ppuRegister a v) p l = refl
 line-writes h other p l = refl
 
 fewer : (b : Bool) (m k : ℕ) → pick b (m + 1) m < k → m < k

@@ -11,7 +11,7 @@ use Rattle.memory.specs.Tables.{all}
 use Rattle.memory.specs.Tests.{conj}
 use Rattle.scanline.specs.Steps.{statusOf, interruptUp}
 use Rattle.lines.specs.Events.{Event}
-use Rattle.lines.specs.Events.Event.{clock, fetch, cpuRead, cpuWrite, ppuWrite}
+use Rattle.lines.specs.Events.Event.{clock, fetch, cpuRead, cpuWrite, ppuRegister}
 use Rattle.lines.specs.Told.{History, lineAt, inFrame, Waiting, newLines, calm, flagTold, up}
 use Rattle.lines.specs.Machine.{watched, allTaken}
 use Rattle.lines.specs.Promise.{LedTo}
@@ -67,7 +67,7 @@ readings =
     case (target1 ++ (L ++ (K ++ (cpuRead 0xFFFA ∷ [])))) 0 false
     ∷ case (target1 ++ (L ++ (K ++ (cpuRead 0xFFFB ∷ [])))) 0 false
     -- the other breaks keep the flag
-    ∷ case (target1 ++ (L ++ (K ++ (ppuWrite 0x2001 0 ∷ [])))) 128 false
+    ∷ case (target1 ++ (L ++ (K ++ (ppuRegister 0x2001 0 ∷ [])))) 128 false
     ∷ case (target1 ++ (L ++ (K ++ (clock ∷ clock ∷ clock ∷ clock ∷ [])))) 128 false
     -- the interrupt is up after the line, and down after the read of $5204
     ∷ case (target1 ++ (enable ++ (L ++ K))) 192 true
@@ -83,7 +83,7 @@ readings =
     -- PPU addresses from $4000 on are not folded before counting
     ∷ case (three 0x6000) 0 false
     -- PPU register mirrors do nothing
-    ∷ case (L ++ (ppuWrite 0x2009 0 ∷ [])) 64 false
+    ∷ case (L ++ (ppuRegister 0x2009 0 ∷ [])) 64 false
     -- equal attribute fetches make a line
     ∷ case (three 0x23C0) 64 false
     -- equal fetches at $3000-$3EFF make none
@@ -102,7 +102,7 @@ misreadings =
     -- every third of a run is a line
     ∷ case (fetch 0x2000 ∷ fetch 0x2000 ∷ cpuWrite 0x5203 1 ∷ fetch 0x2000 ∷ L) 64 false
     -- any break clears the flag
-    ∷ case (target1 ++ (K ++ (L ++ (ppuWrite 0x2001 0 ∷ [])))) 128 false
+    ∷ case (target1 ++ (K ++ (L ++ (ppuRegister 0x2001 0 ∷ [])))) 128 false
     -- a $5204 disable clears the flag
     ∷ case (target1 ++ (L ++ (K ++ (cpuWrite 0x5204 0 ∷ [])))) 192 false
     -- a $5204 read is a break

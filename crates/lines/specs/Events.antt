@@ -13,7 +13,7 @@ pub data Event : Type 0 where
   fetch : (addr : ℕ) → Event
   cpuRead : (addr : ℕ) → Event
   cpuWrite : (addr val : ℕ) → Event
-  ppuWrite : (addr val : ℕ) → Event
+  ppuRegister : (addr val : ℕ) → Event
   other : Event
 
 unfoldable pub isClock : Event → Bool
@@ -21,7 +21,7 @@ isClock clock = true
 isClock (fetch a) = false
 isClock (cpuRead a) = false
 isClock (cpuWrite a v) = false
-isClock (ppuWrite a v) = false
+isClock (ppuRegister a v) = false
 isClock other = false
 
 -- a PPU fetch from lo to hi
@@ -30,7 +30,7 @@ fetches lo hi clock = false
 fetches lo hi (fetch a) = leb lo a && leb a hi
 fetches lo hi (cpuRead a) = false
 fetches lo hi (cpuWrite a v) = false
-fetches lo hi (ppuWrite a v) = false
+fetches lo hi (ppuRegister a v) = false
 fetches lo hi other = false
 
 -- a CPU read of p
@@ -39,7 +39,7 @@ reads p clock = false
 reads p (fetch a) = false
 reads p (cpuRead a) = eqb a p
 reads p (cpuWrite a v) = false
-reads p (ppuWrite a v) = false
+reads p (ppuRegister a v) = false
 reads p other = false
 
 -- a CPU write to p
@@ -48,7 +48,7 @@ writes p clock = false
 writes p (fetch a) = false
 writes p (cpuRead a) = false
 writes p (cpuWrite a v) = eqb a p
-writes p (ppuWrite a v) = false
+writes p (ppuRegister a v) = false
 writes p other = false
 
 -- "a PPU register write to $2001 with bits 3 and 4 clear"
@@ -57,7 +57,7 @@ darkens clock = false
 darkens (fetch a) = false
 darkens (cpuRead a) = false
 darkens (cpuWrite a v) = false
-darkens (ppuWrite a v) = eqb a 0x2001 && dark v
+darkens (ppuRegister a v) = eqb a 0x2001 && dark v
 darkens other = false
 
 -- the call's address, and the value that it writes; 0 where it has none
@@ -66,7 +66,7 @@ address clock = 0
 address (fetch a) = a
 address (cpuRead a) = a
 address (cpuWrite a v) = a
-address (ppuWrite a v) = a
+address (ppuRegister a v) = a
 address other = 0
 
 unfoldable pub value : Event → ℕ
@@ -74,7 +74,7 @@ value clock = 0
 value (fetch a) = 0
 value (cpuRead a) = 0
 value (cpuWrite a v) = v
-value (ppuWrite a v) = v
+value (ppuRegister a v) = v
 value other = 0
 
 -- "Only fetches at $2000-$3EFF count here."

@@ -13,7 +13,7 @@ use Rattle.scanline.specs.Tiles.{raisedBy, leftAfter}
 use Rattle.scanline.specs.Steps.{detectorAtLoad, matchesAfter, meets, seenAt, clocked, dark, broken, vectorRead, statusRead, targeted, enabledBy}
 use Rattle.scanline.specs.Ranges.{counterRefused}
 use Rattle.lines.specs.Events.{Event}
-use Rattle.lines.specs.Events.Event.{clock, fetch, cpuRead, cpuWrite, ppuWrite, other}
+use Rattle.lines.specs.Events.Event.{clock, fetch, cpuRead, cpuWrite, ppuRegister, other}
 use Rattle.lines.specs.Told.{History}
 
 unfoldable pub step : Detector → Event → Detector
@@ -21,7 +21,7 @@ step d clock = clocked d
 step d (fetch a) = pick (countedAt a) (seenAt d a) d
 step d (cpuRead a) = pick (eqb a 0xFFFA || eqb a 0xFFFB) (vectorRead d) (pick (eqb a 0x5204) (statusRead d) d)
 step d (cpuWrite a v) = pick (eqb a 0x5203) (targeted d v) (pick (eqb a 0x5204) (enabledBy d v) d)
-step d (ppuWrite a v) = pick (eqb a 0x2001 && dark v) (broken d) d
+step d (ppuRegister a v) = pick (eqb a 0x2001 && dark v) (broken d) d
 step d other = d
 
 -- after all calls of a history, taken or not
@@ -42,7 +42,7 @@ eventRefused w clock = false
 eventRefused w (fetch a) = counterRefused (w .detector) (w .tiles) a
 eventRefused w (cpuRead a) = false
 eventRefused w (cpuWrite a v) = false
-eventRefused w (ppuWrite a v) = false
+eventRefused w (ppuRegister a v) = false
 eventRefused w other = false
 
 unfoldable pub tilesBy : Watched → Event → ℕ
@@ -50,7 +50,7 @@ tilesBy w clock = w .tiles
 tilesBy w (fetch a) = pick (countedAt a) (leftAfter (matchesAfter (w .detector) a) (raisedBy (w .tiles) a)) (w .tiles)
 tilesBy w (cpuRead a) = w .tiles
 tilesBy w (cpuWrite a v) = w .tiles
-tilesBy w (ppuWrite a v) = w .tiles
+tilesBy w (ppuRegister a v) = w .tiles
 tilesBy w other = w .tiles
 
 -- the call e is taken from w to w': a fetch that refusal 7 is given for is no call of a history
@@ -74,7 +74,7 @@ irqPendingBy d p clock = p
 irqPendingBy d p (fetch a) = pick (countedAt a && meets d a) (pick (d .«irq_enabled») true p) p
 irqPendingBy d p (cpuRead a) = pick (eqb a 0xFFFA || eqb a 0xFFFB || eqb a 0x5204) false p
 irqPendingBy d p (cpuWrite a v) = pick (eqb a 0x5204) (pick (bitSet v 7) (pick (d .pending) true p) false) p
-irqPendingBy d p (ppuWrite a v) = p
+irqPendingBy d p (ppuRegister a v) = p
 irqPendingBy d p other = p
 
 unfoldable pub irqPending : History → Bool
