@@ -8,6 +8,9 @@ use Rattle.memory.specs.declared.Page.{Page}
 use Rattle.memory.specs.declared.Src.{Src}
 use Rattle.memory.specs.declared.Src.the-variants.{Blank, PrgRom, PrgRam, Chr, CiRam, ExRam}
 use Rattle.memory.specs.Words.{pick, pageOf}
+use Rattle.answers.specs.declared.Answer.the-variants.{Refused}
+use Rattle.answers.specs.declared.Refusal.the-variants.{State as StateBroken}
+use Rattle.answers.specs.Letters.{letterOf, valueOf}
 use Rattle.state.specs.declared.State.{State}
 use Rattle.state.specs.Ranges.{inRange}
 use Rattle.cpu.specs.Writes.{prgWordAt}
@@ -33,7 +36,7 @@ entryNumber p = sourceNumber (p .src) * 65536 + withinBuffer (p .index) (p .writ
 
 -- No buffer has this number: `!`, and refusal 5.
 abbrev pub noEntry : ℕ
-noEntry = 0x21 * 65536 + 5
+noEntry = letterOf (Refused StateBroken) * 65536 + valueOf (Refused StateBroken)
 
 unfoldable pub prgEntry : State → ℕ → ℕ
 prgEntry s a = pick (not (inRange s)) noEntry (entryNumber (pageOf (prgWordAt (s .«prg_pages») a)))

@@ -51,7 +51,7 @@ pub fn mirroring(told: Told) -> u32
 {
     match told {
         Told::Is(m) => words::put::number_of_mirroring(m) as u32,
-        Told::Refused(r) => 8448 + answers::number_of(r) as u32,
+        Told::Refused(r) => plain(Answer::Refused(r)),
     }
 }
 
@@ -61,6 +61,6 @@ pub fn interrupt(told: Interrupt) -> u32
     match told {
         Interrupt::Up => 1,
         Interrupt::Down => 0,
-        Interrupt::Refused(r) => 8448 + answers::number_of(r) as u32,
+        Interrupt::Refused(r) => plain(Answer::Refused(r)),
     }
 }
