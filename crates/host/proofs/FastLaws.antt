@@ -112,10 +112,6 @@ pub idle-small : (s : State) (d : Detector) → inRange s ≡ true → d ≡ s .
 idle-small s d h ed = rw ed (ranges-kept .idle-fits (s .irq) (ranged s h .detector))
 
 -- The CPU read.
-pub read-shut : (s : State) (m : Mem) (a : ℕ) (r : Refusal) → gateMem s m ≡ Shut r → cpuRead s m a ≡ refused s r
-unfolding cpuRead
-read-shut s m a r t = rw t
-
 pub read-done : (s : State) (m : Mem) (a : ℕ) (x : PageWord) (page y : Answer) (r : Regs) (v : VSplit) (d d′ : Detector)
     → gateMem s m ≡ Open → audioRead a ≡ false
     → x ≡ prgWordAt (s .«prg_pages») a → page ≡ pageAnswer m (pageOf x) a → r ≡ s .regs → v ≡ s .vsplit → d ≡ s .irq

@@ -10,7 +10,6 @@ use Rattle.memory.specs.Bytes.{Mem}
 use Rattle.memory.specs.Words.{pick, pageOf}
 use Rattle.memory.proofs.Tests.{pick-keeps}
 use Rattle.answers.specs.declared.Answer.{Answer}
-use Rattle.answers.specs.declared.Refusal.{Refusal}
 use Rattle.registers.specs.declared.Regs.{Regs}
 use Rattle.registers.specs.Registers.{nametableUse}
 use Rattle.scanline.specs.declared.Detector.{Detector}
@@ -21,7 +20,7 @@ use Rattle.scanline.specs.Tiles.{tilesOk, columnOf, isPrefetched, isFirst}
 use Rattle.split.specs.declared.VSplit.{VSplit}
 use Rattle.split.specs.Control.{splitActive}
 use Rattle.split.specs.Region.{scrollOf, afterName}
-use Rattle.state.specs.declared.gate.Gate.the-variants.{Open, Shut}
+use Rattle.state.specs.declared.gate.Gate.the-variants.{Open}
 use Rattle.state.specs.declared.Lengths.{Lengths}
 use Rattle.state.specs.declared.PpuStatus.{PpuStatus}
 use Rattle.state.specs.declared.State.{State}
@@ -34,7 +33,7 @@ use Rattle.cpu.specs.Reads.{pageAnswer}
 use Rattle.ppu.specs.Fetches.{ppuSeen, splitSeen}
 use Rattle.ppu.specs.Served.{countedServed, patternServed}
 use Rattle.board.specs.declared.Outcome.{Outcome}
-use Rattle.board.specs.Outcomes.{outcome, refused}
+use Rattle.board.specs.Outcomes.{outcome}
 use Rattle.board_ppu.specs.Fetch.{setChanged, patternPages, ppuFetch}
 use Rattle.board_ppu.specs.Peeks.{chrWordAt, chrAnswer}
 use Rattle.promises.proofs.Gates.{in-range-of}
@@ -47,10 +46,6 @@ use Rattle.words.proofs.RoundLaws.{pages-back}
 use Rattle.told.specs.Told.{toldWith}
 use Rattle.host.specs.Hosted.{leftOf, onWords}
 use Rattle.host.proofs.FastLaws.{taken-left}
-
-pub fetch-shut : (s : State) (m : Mem) (a : ℕ) (r : Refusal) → gateMem s m ≡ Shut r → ppuFetch s m a ≡ refused s r
-unfolding ppuFetch
-fetch-shut s m a r t = rw t
 
 -- The test of refusal 7, on the groups as they were read.
 pub not-refused : (s : State) (a : ℕ) (b c : Bool) (d : Detector) (p : PpuStatus) → d ≡ s .irq → p ≡ s .ppu → b ≡ counterRefused d (p .«tile_number») a → b ≡ c → counterRefused (s .irq) (s .ppu .«tile_number») a ≡ c

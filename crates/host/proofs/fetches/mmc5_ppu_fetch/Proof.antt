@@ -3,9 +3,10 @@ use mathlib.Core.Bool.{true, false}
 use mathlib.Core.Path.{sym, _∙_}
 use Rattle.memory.specs.Bytes.{memOf}
 use Rattle.arms.proofs.Made.{fetch-refused}
+use Rattle.promises.proofs.Promised.{who-is-refused}
 use Rattle.words.specs.Words.{wordsAt, stateOf}
 use Rattle.host.proofs.FastLaws.{shut-left, refused-left, open-sound, opened}
-use Rattle.host.proofs.FetchLaws.{fetch-shut, not-refused, detector-ranged, tiles-ranged, flags-kept, split-kept, counted-done, counted-left, other-left}
+use Rattle.host.proofs.FetchLaws.{not-refused, detector-ranged, tiles-ranged, flags-kept, split-kept, counted-done, counted-left, other-left}
 use borrow.Author.Needs.{needs}
 use Rattle.host.proofs.fetches.mmc5_ppu_fetch.Statement.{statement}
 use Rattle.host.proofs.fetches.mmc5_ppu_fetch.Tie as tie
@@ -27,7 +28,7 @@ returns c =
     let a = c .before .before .before .before .before .before .before .before .before .before .before .before .before .before .before .before .before .before .before .args in
     let w = wordsAt (a .bytes .now) (a .halves .now) (a .wide .now) (a .«prg-banks» .now) (a .«chr-banks» .now) (a .«prg-pages» .now) (a .«chr-pages» .now) in
     let m = memOf (a .prg .now) (a .chr .now) (a .ram .now) (a .ciram .now) (a .exram .now) in
-    shut-left w m _ _ _ _ (c .before .before .before .before .before .before .before .before .before .before .known .ensures) (c .before .before .before .before .passed .ensures) (c .before .before .gate .given .1) (fetch-shut _ _ _ _) (c .plain .ensures)
+    shut-left w m _ _ _ _ (c .before .before .before .before .before .before .before .before .before .before .known .ensures) (c .before .before .before .before .passed .ensures) (c .before .before .gate .given .1) (who-is-refused .fetch-shut _ _ _ _) (c .plain .ensures)
 
 enum-told : tie.Need-enum-told
 enum-told c = search needs

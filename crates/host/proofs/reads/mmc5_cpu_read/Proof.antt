@@ -2,8 +2,9 @@
 use mathlib.Core.Path.{sym, _∙_}
 use Rattle.memory.specs.Bytes.{memOf}
 use Rattle.arms.proofs.Made.{read-refused}
+use Rattle.promises.proofs.Promised.{who-is-refused}
 use Rattle.words.specs.Words.{wordsAt, stateOf}
-use Rattle.host.proofs.FastLaws.{shut-left, refused-left, open-sound, opened, irq-left, read-shut, read-done}
+use Rattle.host.proofs.FastLaws.{shut-left, refused-left, open-sound, opened, irq-left, read-done}
 use borrow.Author.Needs.{needs}
 use Rattle.host.proofs.reads.mmc5_cpu_read.Statement.{statement}
 use Rattle.host.proofs.reads.mmc5_cpu_read.Tie as tie
@@ -25,7 +26,7 @@ returns c =
     let a = c .before .before .before .before .before .before .before .before .before .before .before .before .before .before .before .before .before .before .before .args in
     let w = (wordsAt (a .bytes .now) (a .halves .now) (a .wide .now) (a .«prg-banks» .now) (a .«chr-banks» .now) (a .«prg-pages» .now) (a .«chr-pages» .now)) in
     let m = (memOf (a .prg .now) (a .chr .now) (a .ram .now) (a .ciram .now) (a .exram .now)) in
-    shut-left w m _ _ _ _ (c .before .before .before .before .before .before .before .before .before .before .known .ensures) (c .before .before .before .before .passed .ensures) (c .before .before .gate .given .1) (read-shut _ _ _ _) (c .plain .ensures)
+    shut-left w m _ _ _ _ (c .before .before .before .before .before .before .before .before .before .before .known .ensures) (c .before .before .before .before .passed .ensures) (c .before .before .gate .given .1) (who-is-refused .read-shut _ _ _ _) (c .plain .ensures)
 
 enum-told : tie.Need-enum-told
 enum-told c = search needs
