@@ -36,8 +36,8 @@ use Rattle.words.specs.Promise.{Lent}
 use Rattle.words.specs.Words.{Words, good, stateOf, wordsOf}
 use Rattle.words.proofs.RoundLaws.{words-back}
 use Rattle.told.specs.Told.{noState, toldPlain, toldWith}
-use Rattle.host.specs.Hosted.{Left, leftOf, onWords, Hosted, hostedOf, onMemory}
-use Rattle.host.specs.Promise.{withMemory, calledOn, Promised}
+use Rattle.host.specs.Hosted.{LeftWords, leftWords, onWords, LeftMemory, leftMemory, onMemory}
+use Rattle.host.specs.Promise.{withMemory, calledOn, RefusalsLeaveAll}
 use Rattle.host.proofs.HostLaws.{words-stay, words-left, memory-stays, memory-left}
 
 -- The numbers of refusals: `!` is the least letter.
@@ -71,25 +71,25 @@ module _ (w : Words) (l : Lent w) (r : Refusal) where
   back g s e = ap wordsOf e ∙ words-back w (l .bytes) (l .halves) (l .wide) g
 
   -- A call that tells a refusal, where the board gives the state and the bytes back if it refuses.
-  words-kept : (f : State → Outcome) → (isRefused (f (stateOf w) .answer) ≡ true → f (stateOf w) .state ≡ stateOf w) → onWords w f .number ≡ toldPlain (Refused r) → onWords w f ≡ leftOf (toldPlain (Refused r)) w
+  words-kept : (f : State → Outcome) → (isRefused (f (stateOf w) .answer) ≡ true → f (stateOf w) .state ≡ stateOf w) → onWords w f .number ≡ toldPlain (Refused r) → onWords w f ≡ leftWords (toldPlain (Refused r)) w
   unfolding onWords
   words-kept f k e =
       split (good (w .bytes))
       (λ g. let o = f (stateOf w) in
       let n : toldWith (o .answer) (o .state .irq) ≡ toldPlain (Refused r) = rw g at e in
-      rw (g, n) (ap (leftOf (toldPlain (Refused r))) (back g (o .state) (k (tells (o .answer) (o .state .irq) r n)))))
-      (λ b. let n : noState ≡ toldPlain (Refused r) = rw b at e in rw b (ap (λ (x : ℕ). leftOf x w) n))
+      rw (g, n) (ap (leftWords (toldPlain (Refused r))) (back g (o .state) (k (tells (o .answer) (o .state .irq) r n)))))
+      (λ b. let n : noState ≡ toldPlain (Refused r) = rw b at e in rw b (ap (λ (x : ℕ). leftWords x w) n))
 
   memory-kept : (m : Mem) (f : State → After) → (isRefused (f (stateOf w) .out .answer) ≡ true → (f (stateOf w) .out .state ≡ stateOf w) × (f (stateOf w) .mem ≡ m))
-      → onMemory w m f .number ≡ toldPlain (Refused r) → onMemory w m f ≡ hostedOf (toldPlain (Refused r)) w m
+      → onMemory w m f .number ≡ toldPlain (Refused r) → onMemory w m f ≡ leftMemory (toldPlain (Refused r)) w m
   unfolding onMemory
   memory-kept m f k e =
       split (good (w .bytes))
       (λ g. let o = f (stateOf w) .out in
       let n : toldWith (o .answer) (o .state .irq) ≡ toldPlain (Refused r) = rw g at e in
       let same = k (tells (o .answer) (o .state .irq) r n) in
-      rw (g, n) (ap (λ (x : Words). hostedOf (toldPlain (Refused r)) x (f (stateOf w) .mem)) (back g (o .state) (same .0)) ∙ ap (hostedOf (toldPlain (Refused r)) w) (same .1)))
-      (λ b. let n : noState ≡ toldPlain (Refused r) = rw b at e in rw b (ap (λ (x : ℕ). hostedOf x w m) n))
+      rw (g, n) (ap (λ (x : Words). leftMemory (toldPlain (Refused r)) x (f (stateOf w) .mem)) (back g (o .state) (same .0)) ∙ ap (leftMemory (toldPlain (Refused r)) w) (same .1)))
+      (λ b. let n : noState ≡ toldPlain (Refused r) = rw b at e in rw b (ap (λ (x : ℕ). leftMemory x w m) n))
 
 -- What the board gives back.
 gate-case : {P : Type 0} (g : Gate) → (g ≡ Open → P) → ((r : Refusal) → g ≡ Shut r → P) → P
@@ -133,16 +133,16 @@ module _ (s : State) (m : Mem) (a : ℕ) where
       (λ h. not-both (ppuWrite s m a v .out .answer) y (ap isRefused (who-is-refused .ppu-write s m a v h)))
       (λ r h. (ap (λ (x : After). x .out .state) (who-is-refused .ppu-write-shut s m a v r h), ap (λ (x : After). x .mem) (who-is-refused .ppu-write-shut s m a v r h)))
 
-kept : (c : Call) (w : Words) (m : Mem) (r : Refusal) → Lent w → calledOn c w m .number ≡ toldPlain (Refused r) → calledOn c w m ≡ hostedOf (toldPlain (Refused r)) w m
-kept Clock w m r l e = ap (λ (x : Left). withMemory x m) (words-kept w l r (λ (s : State). clockCall s) (clock-back (stateOf w)) e)
-kept (CpuRead a) w m r l e = ap (λ (x : Left). withMemory x m) (words-kept w l r (λ (s : State). cpuRead s m (a .0)) (read-back (stateOf w) m (a .0)) e)
+kept : (c : Call) (w : Words) (m : Mem) (r : Refusal) → Lent w → calledOn c w m .number ≡ toldPlain (Refused r) → calledOn c w m ≡ leftMemory (toldPlain (Refused r)) w m
+kept Clock w m r l e = ap (λ (x : LeftWords). withMemory x m) (words-kept w l r (λ (s : State). clockCall s) (clock-back (stateOf w)) e)
+kept (CpuRead a) w m r l e = ap (λ (x : LeftWords). withMemory x m) (words-kept w l r (λ (s : State). cpuRead s m (a .0)) (read-back (stateOf w) m (a .0)) e)
 kept (CpuWrite a v) w m r l e = memory-kept w l r m (λ (s : State). cpuWrite s m (a .0) v) (write-back (stateOf w) m (a .0) v) e
-kept (PpuRegister a v) w m r l e = ap (λ (x : Left). withMemory x m) (words-kept w l r (λ (s : State). ppuRegisterCall s (a .0) v) (register-back (stateOf w) (a .0) v) e)
-kept (PpuFetch a) w m r l e = ap (λ (x : Left). withMemory x m) (words-kept w l r (λ (s : State). ppuFetch s m (a .0)) (fetch-back (stateOf w) m (a .0)) e)
-kept Reset w m r l e = ap (λ (x : Left). withMemory x m) (words-kept w l r (λ (s : State). resetCall s) (reset-back (stateOf w)) e)
+kept (PpuRegister a v) w m r l e = ap (λ (x : LeftWords). withMemory x m) (words-kept w l r (λ (s : State). ppuRegisterCall s (a .0) v) (register-back (stateOf w) (a .0) v) e)
+kept (PpuFetch a) w m r l e = ap (λ (x : LeftWords). withMemory x m) (words-kept w l r (λ (s : State). ppuFetch s m (a .0)) (fetch-back (stateOf w) m (a .0)) e)
+kept Reset w m r l e = ap (λ (x : LeftWords). withMemory x m) (words-kept w l r (λ (s : State). resetCall s) (reset-back (stateOf w)) e)
 kept (PpuWrite a v) w m r l e = memory-kept w l r m (λ (s : State). ppuWrite s m (a .0) v) (store-back (stateOf w) m (a .0) v) e
 
-pub promised : Promised
+pub promised : RefusalsLeaveAll
 promised =
     record {
       refused = kept;

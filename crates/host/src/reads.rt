@@ -5,7 +5,7 @@ ghost use Rattle.state.specs.declared.State.{State};
 ghost use Rattle.words.specs.Words.{wordsAt, pagesOf};
 ghost use Rattle.board.specs.CpuSide.{cpuRead};
 ghost use Rattle.cpu.specs.Writes.{prgWordAt};
-ghost use Rattle.host.specs.Hosted.{leftOf, onWords};
+ghost use Rattle.host.specs.Hosted.{leftWords, onWords};
 use answers::Answer;
 use answers::Refusal;
 use memory::PageWord;
@@ -37,7 +37,7 @@ pub extern "C" fn mmc5_cpu_read(
     exram: &[u8],
     addr: u16,
 ) -> u32
-    ensures { λ r. ⌜ leftOf r (wordsAt (now (bytes .exit)) (now (halves .exit)) (now (wide .exit)) (now («prg_banks» .exit)) (now («chr_banks» .exit)) (now («prg_pages» .exit)) (now («chr_pages» .exit))) ≡ onWords (wordsAt (now (bytes .entry)) (now (halves .entry)) (now (wide .entry)) (now («prg_banks» .entry)) (now («chr_banks» .entry)) (now («prg_pages» .entry)) (now («chr_pages» .entry))) (λ (s : State). cpuRead s (memOf (now (prg .entry)) (now (chr .entry)) (now (ram .entry)) (now (ciram .entry)) (now (exram .entry))) addr) ⌝ }
+    ensures { λ r. ⌜ leftWords r (wordsAt (now (bytes .exit)) (now (halves .exit)) (now (wide .exit)) (now («prg_banks» .exit)) (now («chr_banks» .exit)) (now («prg_pages» .exit)) (now («chr_pages» .exit))) ≡ onWords (wordsAt (now (bytes .entry)) (now (halves .entry)) (now (wide .entry)) (now («prg_banks» .entry)) (now («chr_banks» .entry)) (now («prg_pages» .entry)) (now («chr_pages» .entry))) (λ (s : State). cpuRead s (memOf (now (prg .entry)) (now (chr .entry)) (now (ram .entry)) (now (ciram .entry)) (now (exram .entry))) addr) ⌝ }
 {
     words::groups::known(*bytes, *halves, *wide);
     let gate = words::gate::passed(

@@ -22,7 +22,7 @@ use Rattle.split.specs.Control.{splitRanges}
 use Rattle.state.specs.declared.Lengths.{Lengths}
 use Rattle.state.specs.Lengths.{lengthsOk}
 use Rattle.state.specs.Ranges.{inRange}
-use Rattle.words.specs.Gate.{whole}
+use Rattle.words.specs.Gate.{wordsInRange}
 use Rattle.words.specs.Words.{Words, good, lengthsOf, regsOf, splitOf, detectorOf, pagesOf, stateOf}
 use Rattle.words.proofs.MappedLaws.{numbers-next, numbers-last}
 
@@ -30,15 +30,15 @@ pub ranges-of : (w : Words) (z : Lengths) (r : Regs) (x : VSplit) (d : Detector)
     → z ≡ lengthsOf (w .bytes) (w .wide) → r ≡ regsOf (w .bytes) (w .halves) → x ≡ splitOf (w .bytes) (w .halves) → d ≡ detectorOf (w .bytes) (w .halves)
     → t ≡ lengthsOk z → not t ≡ false → o ≡ good (w .bytes) → g ≡ regsOk r → v ≡ splitRanges x → i ≡ detectorOk d → s ≡ tilesOk (getD (w .wide) 5 0)
     → p ≡ prgTableOk (z .prg) (z .ram) (pagesOf (w .prgPages)) → c ≡ chrTableOk (z .chr) (z .«chr_writable») (pagesOf (w .chrPages))
-    → o && (i && (g && (v && (leb (getD (w .halves) 4 0) 1023 && (s && (p && c)))))) ≡ whole w
-unfolding whole inRange
+    → o && (i && (g && (v && (leb (getD (w .halves) 4 0) 1023 && (s && (p && c)))))) ≡ wordsInRange w
+unfolding wordsInRange inRange
 ranges-of w z r x d t o g v i s p c ez er ex ed et nt eo eg ev ei es ep ec =
     let taken : lengthsOk (lengthsOf (w .bytes) (w .wide)) ≡ true = ap lengthsOk (sym ez) ∙ (sym et ∙ not-false t nt) in
     rw (taken, eo, ei, ed, eg, er, ev, ex, es, ep, ec, ez)
 
 -- Lengths that load does not take: no state in range.
-pub no-lengths : (w : Words) (z : Lengths) (t : Bool) → z ≡ lengthsOf (w .bytes) (w .wide) → t ≡ lengthsOk z → not t ≡ true → false ≡ whole w
-unfolding whole inRange
+pub no-lengths : (w : Words) (z : Lengths) (t : Bool) → z ≡ lengthsOf (w .bytes) (w .wide) → t ≡ lengthsOk z → not t ≡ true → false ≡ wordsInRange w
+unfolding wordsInRange inRange
 no-lengths w z t ez et nt = rw (← ez, ← et, not-true t nt) (sym (and-false (good (w .bytes))))
 
 -- The furthest place of a PRG table's words: it lies in the run just where every word's does.
