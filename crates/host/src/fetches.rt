@@ -5,23 +5,12 @@ ghost use Rattle.memory.specs.Words.{pick};
 ghost use Rattle.state.specs.declared.State.{State};
 ghost use Rattle.banks.specs.Chr.{chrMapped};
 ghost use Rattle.board_ppu.specs.Fetch.{ppuFetch, setChanged};
-ghost use Rattle.board_ppu.specs.Peeks.{chrWordAt};
 ghost use Rattle.words.specs.Words.{wordsAt, lengthsOf, regsOf, pagesOf, numbersOf};
 ghost use Rattle.host.specs.Hosted.{leftWords, onWords};
 use answers::Answer;
 use answers::Refusal;
 use arms::ppu_side;
-use memory::PageWord;
 use state::gate::Gate;
-
-// The page word at a PPU address, in a table lent as numbers.
-pub fn word_at(numbers: &[u16; 16], addr: u16) -> PageWord
-    ensures { λ r. ⌜ r ≡ chrWordAt (pagesOf (now (numbers .entry))) addr ⌝ }
-{
-    let k = (addr / 1024 % 16) as usize;
-    let n = numbers[k];
-    PageWord(n)
-}
 
 // "mapping only on a change"
 fn map_on_change(
@@ -102,7 +91,7 @@ pub extern "C" fn mmc5_ppu_fetch(
         let seen = counted.irq;
         let status = counted.ppu;
         let region = counted.vsplit;
-        let word = word_at(chr_pages, addr);
+        let word = words::tables::chr_word(chr_pages, addr);
         let answer = ppu_side::counted_answer(
             regs,
             region,
@@ -131,7 +120,7 @@ pub extern "C" fn mmc5_ppu_fetch(
         chr_banks,
         chr_pages,
     );
-    let word = word_at(chr_pages, addr);
+    let word = words::tables::chr_word(chr_pages, addr);
     let answer = ppu_side::other_answer(
         regs,
         vsplit,

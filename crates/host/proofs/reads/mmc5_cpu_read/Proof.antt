@@ -48,8 +48,8 @@ returns-2 c =
 detector-of-requires : tie.Need-detector-of-requires
 detector-of-requires c κs = search needs
 
-word-at-requires : tie.Need-word-at-requires
-word-at-requires c κs = search needs
+prg-word-requires : tie.Need-prg-word-requires
+prg-word-requires c κs = search needs
 
 page-answer-requires : tie.Need-page-answer-requires
 page-answer-requires c κs = search needs
@@ -79,7 +79,7 @@ returns-3 c =
     let m = (memOf (a .prg .now) (a .chr .now) (a .ram .now) (a .ciram .now) (a .exram .now)) in
     irq-left w _ _ _ _ _ _ (open-sound w m _ (c .before .before .before .before .before .before .before .before .before .before .before .before .before .before .before .before .before .before .before .before .before .before .before .before .before .before .before .before .before .before .known .ensures) (c .before .before .before .before .before .before .before .before .before .before .before .before .before .before .before .before .before .before .before .before .before .before .before .before .passed .ensures) (c .before .before .before .before .before .before .before .before .before .before .before .before .before .before .before .before .before .before .before .before .before .before .enum-told .given .1))
     (read-done (stateOf w) m _ _ _ _ _ _ _ _ (opened w m _ (c .before .before .before .before .before .before .before .before .before .before .before .before .before .before .before .before .before .before .before .before .before .before .before .before .passed .ensures) (c .before .before .before .before .before .before .before .before .before .before .before .before .before .before .before .before .before .before .before .before .before .before .enum-told .given .1)) (sym (c .before .before .before .before .before .before .before .before .before .before .before .before .before .before .before .before .before .before .before .before .before .audio-read .ensures) ∙ c .before .before .before .before .before .before .before .before .before .before .before .before .before .before .before .before .before .before .before .before .if1 .left)
-    (c .before .before .before .before .before .before .before .before .before .before .before .before .before .before .before .word-at .ensures) (c .before .before .before .before .before .before .before .before .before .before .before .before .before .before .page-answer .ensures) (c .before .before .before .before .before .before .before .before .before .before .before .regs-of .ensures) (c .before .before .before .before .before .before .before .before .split-of .ensures) (c .before .before .before .before .before .before .before .before .before .before .before .before .before .before .before .before .before .detector-of .ensures) (c .before .before .before .before .before .register-or .ensures) (c .before .before .before .before .irq-read .ensures))
+    (c .before .before .before .before .before .before .before .before .before .before .before .before .before .before .before .prg-word .ensures) (c .before .before .before .before .before .before .before .before .before .before .before .before .before .before .page-answer .ensures) (c .before .before .before .before .before .before .before .before .before .before .before .regs-of .ensures) (c .before .before .before .before .before .before .before .before .split-of .ensures) (c .before .before .before .before .before .before .before .before .before .before .before .before .before .before .before .before .before .detector-of .ensures) (c .before .before .before .before .before .register-or .ensures) (c .before .before .before .before .irq-read .ensures))
     (c .before .put-detector .ensures .0) (c .before .put-detector .ensures .1) (c .with-interrupt .ensures)
 
 pub mmc5-cpu-read-spec : {M : Type 1} → statement M
@@ -96,7 +96,7 @@ mmc5-cpu-read-spec =
     plain-requires-2
     returns-2
     detector-of-requires
-    word-at-requires
+    prg-word-requires
     page-answer-requires
     regs-of-requires
     split-of-requires
