@@ -19,7 +19,7 @@ plain-requires : tie.Need-plain-requires
 plain-requires c κs = search needs
 
 returns : tie.Need-returns
-returns c = search needs
+returns c = rw (c .number-of-mirroring .ensures, c .before .before .told .given .1)
 
 returns-2 : tie.Need-returns-2
 returns-2 c = rw (c .plain .ensures, c .before .before .told2 .given .1)
