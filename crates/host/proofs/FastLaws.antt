@@ -32,14 +32,14 @@ use Rattle.board.specs.CpuSide.{cpuRead}
 use Rattle.board.specs.Outcomes.{outcome, refused}
 use Rattle.board.specs.Whole.{clockCall}
 use Rattle.arms.proofs.Made.{read-made}
-use Rattle.words.specs.Gate.{whole, gateOn, gateMemOn}
+use Rattle.words.specs.Gate.{wordsInRange, gateOn, gateMemOn}
 use Rattle.words.specs.Put.{irqBytes, irqHalves}
 use Rattle.words.specs.Words.{Words, wordsAt, good, stateOf, wordsOf}
-use Rattle.words.proofs.GateLaws.{bare, whole-bare, gate-bare, whole-good, whole-range, open-good, open-gate}
+use Rattle.words.proofs.GateLaws.{bare, range-bare, gate-bare, range-good, range-ranged, open-good, open-gate}
 use Rattle.words.proofs.PutLaws.{Sound, irq-put}
 use Rattle.words.proofs.RoundLaws.{words-back}
 use Rattle.told.specs.Told.{noState, toldPlain, toldWith}
-use Rattle.host.specs.Hosted.{leftOf, onWords}
+use Rattle.host.specs.Hosted.{leftWords, onWords}
 use Rattle.host.proofs.HostLaws.{words-stay, words-left}
 
 -- The lengths of the lent arrays.
@@ -53,45 +53,45 @@ shut-same : {a b : Refusal} → Shut a ≡ Shut b → a ≡ b
 shut-same e = cc
 
 -- A refusal leaves the words.
-pub refused-left : (w : Words) (f : State → Outcome) (r : Refusal) (n : ℕ) → Sound w → f (stateOf w) ≡ refused (stateOf w) r → n ≡ toldPlain (Refused r) → leftOf n w ≡ onWords w f
+pub refused-left : (w : Words) (f : State → Outcome) (r : Refusal) (n : ℕ) → Sound w → f (stateOf w) ≡ refused (stateOf w) r → n ≡ toldPlain (Refused r) → leftWords n w ≡ onWords w f
 refused-left w f r n o ef en =
     words-left w w f true (stateOf w) (refused (stateOf w) r) n (sym (o .good)) refl refl (sym ef) (sym (words-back w (o .bytes) (o .halves) (o .wide) (o .good))) en
 
 -- A shut gate, of a call that a shut gate refuses.
 pub shut-left : (w : Words) (m : Mem) (f : State → Outcome) (k : Gate) (r : Refusal) (n : ℕ)
-    → Sized w → k ≡ gateMemOn (bare w) m → k ≡ Shut r → (gateMem (stateOf w) m ≡ Shut r → f (stateOf w) ≡ refused (stateOf w) r) → n ≡ toldPlain (Refused r) → leftOf n w ≡ onWords w f
+    → Sized w → k ≡ gateMemOn (bare w) m → k ≡ Shut r → (gateMem (stateOf w) m ≡ Shut r → f (stateOf w) ≡ refused (stateOf w) r) → n ≡ toldPlain (Refused r) → leftWords n w ≡ onWords w f
 unfolding gateOn
 shut-left w m f k r n l e t ef en =
     let h : gateMemOn w m ≡ Shut r = sym (gate-bare w _ _ _ _ _) ∙ (sym e ∙ t) in
     split (good (w .bytes))
     (λ g. refused-left w f r n (sound w l g) (ef (rw g at h)) en)
-    (λ b. let same : r ≡ StateBroken = shut-same (sym (rw b at h)) in ap (λ (x : ℕ). leftOf x w) (en ∙ ap (λ (x : Refusal). toldPlain (Refused x)) same) ∙ words-stay w f false (sym b) refl)
+    (λ b. let same : r ≡ StateBroken = shut-same (sym (rw b at h)) in ap (λ (x : ℕ). leftWords x w) (en ∙ ap (λ (x : Refusal). toldPlain (Refused x)) same) ∙ words-stay w f false (sym b) refl)
 
 -- A call that is taken, by the words that it leaves.
-pub taken-left : (w v : Words) (f : State → Outcome) (a : Answer) (t : State) (n : ℕ) → Sound w → f (stateOf w) ≡ outcome a t → v ≡ wordsOf t → n ≡ toldWith a (t .irq) → leftOf n v ≡ onWords w f
+pub taken-left : (w v : Words) (f : State → Outcome) (a : Answer) (t : State) (n : ℕ) → Sound w → f (stateOf w) ≡ outcome a t → v ≡ wordsOf t → n ≡ toldWith a (t .irq) → leftWords n v ≡ onWords w f
 taken-left w v f a t n o ef ev en = words-left w v f true (stateOf w) (outcome a t) n (sym (o .good)) refl refl (sym ef) ev en
 
 -- Where only the detector changes.
 pub irq-left : (w : Words) (f : State → Outcome) (a : Answer) (d : Detector) (b h : List ℕ) (n : ℕ)
     → Sound w → f (stateOf w) ≡ outcome a (withIrq (stateOf w) d) → b ≡ irqBytes (w .bytes) d → h ≡ irqHalves (w .halves) d → n ≡ toldWith a d
-    → leftOf n (wordsAt b h (w .wide) (w .prgBanks) (w .chrBanks) (w .prgPages) (w .chrPages)) ≡ onWords w f
+    → leftWords n (wordsAt b h (w .wide) (w .prgBanks) (w .chrBanks) (w .prgPages) (w .chrPages)) ≡ onWords w f
 irq-left w f a d b h n o ef eb eh en = taken-left w _ f a (withIrq (stateOf w) d) n o ef (rw (eb, eh) (irq-put w d o)) en
 
 -- A call on words that are no state in range, which such a call refuses with 5.
-pub not-whole-left : (w : Words) (f : State → Outcome) (o : Bool) → Sized w → o ≡ whole (bare w) → not o ≡ true → (inRange (stateOf w) ≡ false → f (stateOf w) ≡ refused (stateOf w) StateBroken) → leftOf noState w ≡ onWords w f
-unfolding whole
-not-whole-left w f o l e t ef =
-    let h : good (w .bytes) && inRange (stateOf w) ≡ false = sym (whole-bare w) ∙ (sym e ∙ not-true o t) in
+pub not-in-range-left : (w : Words) (f : State → Outcome) (o : Bool) → Sized w → o ≡ wordsInRange (bare w) → not o ≡ true → (inRange (stateOf w) ≡ false → f (stateOf w) ≡ refused (stateOf w) StateBroken) → leftWords noState w ≡ onWords w f
+unfolding wordsInRange
+not-in-range-left w f o l e t ef =
+    let h : good (w .bytes) && inRange (stateOf w) ≡ false = sym (range-bare w) ∙ (sym e ∙ not-true o t) in
     split (good (w .bytes))
     (λ g. refused-left w f StateBroken noState (sound w l g) (ef (rw g at h)) refl)
     (λ b. words-stay w f false (sym b) refl)
 
 -- What the tests say where they hold.
-pub whole-sound : (w : Words) (o : Bool) → Sized w → o ≡ whole (bare w) → not o ≡ false → Sound w
-whole-sound w o l e t = sound w l (whole-good w (sym (whole-bare w) ∙ (sym e ∙ not-false o t)))
+pub in-range-sound : (w : Words) (o : Bool) → Sized w → o ≡ wordsInRange (bare w) → not o ≡ false → Sound w
+in-range-sound w o l e t = sound w l (range-good w (sym (range-bare w) ∙ (sym e ∙ not-false o t)))
 
-pub whole-ranged : (w : Words) (o : Bool) → o ≡ whole (bare w) → not o ≡ false → inRange (stateOf w) ≡ true
-whole-ranged w o e t = whole-range w (sym (whole-bare w) ∙ (sym e ∙ not-false o t))
+pub in-range-ranged : (w : Words) (o : Bool) → o ≡ wordsInRange (bare w) → not o ≡ false → inRange (stateOf w) ≡ true
+in-range-ranged w o e t = range-ranged w (sym (range-bare w) ∙ (sym e ∙ not-false o t))
 
 pub open-sound : (w : Words) (m : Mem) (k : Gate) → Sized w → k ≡ gateMemOn (bare w) m → k ≡ Open → Sound w
 open-sound w m k l e t = sound w l (open-good w _ _ _ _ _ (sym (gate-bare w _ _ _ _ _) ∙ (sym e ∙ t)))
@@ -112,10 +112,6 @@ pub idle-small : (s : State) (d : Detector) → inRange s ≡ true → d ≡ s .
 idle-small s d h ed = rw ed (ranges-kept .idle-fits (s .irq) (ranged s h .detector))
 
 -- The CPU read.
-pub read-shut : (s : State) (m : Mem) (a : ℕ) (r : Refusal) → gateMem s m ≡ Shut r → cpuRead s m a ≡ refused s r
-unfolding cpuRead
-read-shut s m a r t = rw t
-
 pub read-done : (s : State) (m : Mem) (a : ℕ) (x : PageWord) (page y : Answer) (r : Regs) (v : VSplit) (d d′ : Detector)
     → gateMem s m ≡ Open → audioRead a ≡ false
     → x ≡ prgWordAt (s .«prg_pages») a → page ≡ pageAnswer m (pageOf x) a → r ≡ s .regs → v ≡ s .vsplit → d ≡ s .irq

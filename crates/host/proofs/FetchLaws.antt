@@ -10,7 +10,6 @@ use Rattle.memory.specs.Bytes.{Mem}
 use Rattle.memory.specs.Words.{pick, pageOf}
 use Rattle.memory.proofs.Tests.{pick-keeps}
 use Rattle.answers.specs.declared.Answer.{Answer}
-use Rattle.answers.specs.declared.Refusal.{Refusal}
 use Rattle.registers.specs.declared.Regs.{Regs}
 use Rattle.registers.specs.Registers.{nametableUse}
 use Rattle.scanline.specs.declared.Detector.{Detector}
@@ -21,7 +20,7 @@ use Rattle.scanline.specs.Tiles.{tilesOk, columnOf, isPrefetched, isFirst}
 use Rattle.split.specs.declared.VSplit.{VSplit}
 use Rattle.split.specs.Control.{splitActive}
 use Rattle.split.specs.Region.{scrollOf, afterName}
-use Rattle.state.specs.declared.gate.Gate.the-variants.{Open, Shut}
+use Rattle.state.specs.declared.gate.Gate.the-variants.{Open}
 use Rattle.state.specs.declared.Lengths.{Lengths}
 use Rattle.state.specs.declared.PpuStatus.{PpuStatus}
 use Rattle.state.specs.declared.State.{State}
@@ -34,7 +33,7 @@ use Rattle.cpu.specs.Reads.{pageAnswer}
 use Rattle.ppu.specs.Fetches.{ppuSeen, splitSeen}
 use Rattle.ppu.specs.Served.{countedServed, patternServed}
 use Rattle.board.specs.declared.Outcome.{Outcome}
-use Rattle.board.specs.Outcomes.{outcome, refused}
+use Rattle.board.specs.Outcomes.{outcome}
 use Rattle.board_ppu.specs.Fetch.{setChanged, patternPages, ppuFetch}
 use Rattle.board_ppu.specs.Peeks.{chrWordAt, chrAnswer}
 use Rattle.promises.proofs.Gates.{in-range-of}
@@ -45,12 +44,8 @@ use Rattle.words.specs.Words.{Words, wordsAt, pagesOf, numbersOf, stateOf}
 use Rattle.words.proofs.PutLaws.{Sound, KeepsFlags, KeepsSplit, KeepsTiles, counted-put, pattern-put}
 use Rattle.words.proofs.RoundLaws.{pages-back}
 use Rattle.told.specs.Told.{toldWith}
-use Rattle.host.specs.Hosted.{leftOf, onWords}
+use Rattle.host.specs.Hosted.{leftWords, onWords}
 use Rattle.host.proofs.FastLaws.{taken-left}
-
-pub fetch-shut : (s : State) (m : Mem) (a : ℕ) (r : Refusal) → gateMem s m ≡ Shut r → ppuFetch s m a ≡ refused s r
-unfolding ppuFetch
-fetch-shut s m a r t = rw t
 
 -- The test of refusal 7, on the groups as they were read.
 pub not-refused : (s : State) (a : ℕ) (b c : Bool) (d : Detector) (p : PpuStatus) → d ≡ s .irq → p ≡ s .ppu → b ≡ counterRefused d (p .«tile_number») a → b ≡ c → counterRefused (s .irq) (s .ppu .«tile_number») a ≡ c
@@ -116,7 +111,7 @@ tiles-kept p q p′ framed a e e′ = rw (e′, e) (pick-keeps (KeepsTiles q) (l
 pub counted-left : (w : Words) (f : State → Outcome) (y : Answer) (d : Detector) (p : PpuStatus) (v : VSplit) (b h h′ u b″ h″ : List ℕ) (n : ℕ)
     → Sound w → KeepsFlags (stateOf w .ppu) p → KeepsSplit (stateOf w .vsplit) v → f (stateOf w) ≡ outcome y (withVsplit (withPpu (withIrq (stateOf w) d) p) v)
     → b ≡ irqBytes (w .bytes) d → h ≡ irqHalves (w .halves) d → h′ ≡ tileHalves h p → u ≡ tileWide (w .wide) p → b″ ≡ regionBytes b v → h″ ≡ regionHalves h′ v
-    → n ≡ toldWith y d → leftOf n (wordsAt b″ h″ u (w .prgBanks) (w .chrBanks) (w .prgPages) (w .chrPages)) ≡ onWords w f
+    → n ≡ toldWith y d → leftWords n (wordsAt b″ h″ u (w .prgBanks) (w .chrBanks) (w .prgPages) (w .chrPages)) ≡ onWords w f
 counted-left w f y d p v b h h′ u b″ h″ n o kp kv ef eb eh eh′ eu eb″ eh″ en =
     taken-left w _ f y (withVsplit (withPpu (withIrq (stateOf w) d) p) v) n o ef (rw (eb″, eh″, eh′, eu, eb, eh) (counted-put w d p v o kp kv)) en
 
@@ -137,7 +132,7 @@ pub other-left : (w : Words) (m : Mem) (a : ℕ) (r : Regs) (d : Detector) (p : 
     → x ≡ chrWordAt (pagesOf cp) a
     → y ≡ pick (ltb a 0x2000) (patternServed r v d p′ (m .exram) (m .chr) a (pageAnswer m (pageOf x) a)) (pageAnswer m (pageOf x) a)
     → b ≡ setBytes (w .bytes) p′ → n ≡ toldWith y d
-    → leftOf n (wordsAt b (w .halves) (w .wide) (w .prgBanks) (w .chrBanks) (w .prgPages) cp) ≡ onWords w (λ (s : State). ppuFetch s m a)
+    → leftWords n (wordsAt b (w .halves) (w .wide) (w .prgBanks) (w .chrBanks) (w .prgPages) cp) ≡ onWords w (λ (s : State). ppuFetch s m a)
 other-left w m a r d p v p′ cp x y b n o g f t er ed ep ev ep′ ecp ex ey eb en =
     let s = stateOf w in
     let pages = patternPages s (p′ .«bg_set») in

@@ -11,30 +11,30 @@ use Rattle.words.specs.Words.{Words, good, stateOf, wordsOf}
 use Rattle.told.specs.Told.{noState, toldWith}
 
 -- What a call leaves: its number and the words.
-pub record Left : Type 0 where
+pub record LeftWords : Type 0 where
   pub number : ℕ
   pub words : Words
 
-abbrev pub leftOf : ℕ → Words → Left
-leftOf n w = record { number = n; words = w }
+abbrev pub leftWords : ℕ → Words → LeftWords
+leftWords n w = record { number = n; words = w }
 
-abbrev pub leaving : Outcome → Left
-leaving o = leftOf (toldWith (o .answer) (o .state .irq)) (wordsOf (o .state))
+abbrev pub leavingWords : Outcome → LeftWords
+leavingWords o = leftWords (toldWith (o .answer) (o .state .irq)) (wordsOf (o .state))
 
-unfoldable pub onWords : Words → (State → Outcome) → Left
-onWords w f = pick (not (good (w .bytes))) (leftOf noState w) (leaving (f (stateOf w)))
+unfoldable pub onWords : Words → (State → Outcome) → LeftWords
+onWords w f = pick (not (good (w .bytes))) (leftWords noState w) (leavingWords (f (stateOf w)))
 
 -- Of a call that writes memory, the buffers too.
-pub record Hosted : Type 0 where
+pub record LeftMemory : Type 0 where
   pub number : ℕ
   pub words : Words
   pub mem : Mem
 
-abbrev pub hostedOf : ℕ → Words → Mem → Hosted
-hostedOf n w m = record { number = n; words = w; mem = m }
+abbrev pub leftMemory : ℕ → Words → Mem → LeftMemory
+leftMemory n w m = record { number = n; words = w; mem = m }
 
-abbrev pub hosting : After → Hosted
-hosting x = hostedOf (toldWith (x .out .answer) (x .out .state .irq)) (wordsOf (x .out .state)) (x .mem)
+abbrev pub leavingMemory : After → LeftMemory
+leavingMemory x = leftMemory (toldWith (x .out .answer) (x .out .state .irq)) (wordsOf (x .out .state)) (x .mem)
 
-unfoldable pub onMemory : Words → Mem → (State → After) → Hosted
-onMemory w m f = pick (not (good (w .bytes))) (hostedOf noState w m) (hosting (f (stateOf w)))
+unfoldable pub onMemory : Words → Mem → (State → After) → LeftMemory
+onMemory w m f = pick (not (good (w .bytes))) (leftMemory noState w m) (leavingMemory (f (stateOf w)))

@@ -3,7 +3,7 @@
 // change; the others read the words as a state, make the call by value and put the state back. The calls that change nothing are a library
 // of their own (`host_looks`), so that the fetch's functions have one caller here and are compiled into it. docs/HOST.md has the boundary
 // for a reader.
-ghost use Rattle.host.specs.Promise.{Promised};
+ghost use Rattle.host.specs.Promise.{RefusalsLeaveAll};
 
 pub mod clocks;
 pub mod cpu_side;
@@ -15,5 +15,5 @@ pub mod whole;
 
 // No code: its contract holds that a refusal leaves every word and byte.
 pub fn promises()
-    ensures { λ _. ⌜ Promised ⌝ }
+    ensures { λ _. ⌜ RefusalsLeaveAll ⌝ }
 {}

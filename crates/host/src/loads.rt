@@ -5,7 +5,7 @@ ghost use lib.Dec.{eqb};
 ghost use Rattle.memory.specs.Bytes.{memOf};
 ghost use Rattle.board.specs.Loads.{loadCall};
 ghost use Rattle.words.specs.Words.{wordsAt, mirroringNumbered};
-ghost use Rattle.host.specs.Hosted.{leftOf, leaving};
+ghost use Rattle.host.specs.Hosted.{leftWords, leavingWords};
 
 // CHR is writable where the byte is not 0; mirroring is 0 to 4, and 4 stands for what is above. What the words held does not matter. A refused
 // load leaves the zero state.
@@ -26,7 +26,7 @@ pub extern "C" fn mmc5_load(
     chr_writable: u8,
     mirroring: u8,
 ) -> u32
-    ensures { λ r. ⌜ leftOf r (wordsAt (now (bytes .exit)) (now (halves .exit)) (now (wide .exit)) (now («prg_banks» .exit)) (now («chr_banks» .exit)) (now («prg_pages» .exit)) (now («chr_pages» .exit))) ≡ leaving (loadCall (memOf (now (prg .entry)) (now (chr .entry)) (now (ram .entry)) (now (ciram .entry)) (now (exram .entry))) (not (eqb «chr_writable» 0)) (mirroringNumbered mirroring)) ⌝ }
+    ensures { λ r. ⌜ leftWords r (wordsAt (now (bytes .exit)) (now (halves .exit)) (now (wide .exit)) (now («prg_banks» .exit)) (now («chr_banks» .exit)) (now («prg_pages» .exit)) (now («chr_pages» .exit))) ≡ leavingWords (loadCall (memOf (now (prg .entry)) (now (chr .entry)) (now (ram .entry)) (now (ciram .entry)) (now (exram .entry))) (not (eqb «chr_writable» 0)) (mirroringNumbered mirroring)) ⌝ }
 {
     let screen = words::read::mirroring_numbered(mirroring);
     let o = board::loads::load(prg, chr, ram, ciram, exram, chr_writable != 0, screen);

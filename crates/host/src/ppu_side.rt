@@ -4,7 +4,7 @@ ghost use Rattle.state.specs.declared.State.{State};
 ghost use Rattle.words.specs.Words.{wordsAt};
 ghost use Rattle.memory.specs.Bytes.{memOf};
 ghost use Rattle.board_ppu.specs.Peeks.{ppuWrite};
-ghost use Rattle.host.specs.Hosted.{hostedOf, onMemory};
+ghost use Rattle.host.specs.Hosted.{leftMemory, onMemory};
 use memory::PpuAddr;
 
 // A PPU memory write.
@@ -25,7 +25,7 @@ pub extern "C" fn mmc5_ppu_write(
     addr: u16,
     val: u8,
 ) -> u32
-    ensures { λ r. ⌜ hostedOf r (wordsAt (now (bytes .exit)) (now (halves .exit)) (now (wide .exit)) (now («prg_banks» .exit)) (now («chr_banks» .exit)) (now («prg_pages» .exit)) (now («chr_pages» .exit))) (memOf (now (prg .entry)) (now (chr .exit)) (now (ram .exit)) (now (ciram .exit)) (now (exram .exit))) ≡ onMemory (wordsAt (now (bytes .entry)) (now (halves .entry)) (now (wide .entry)) (now («prg_banks» .entry)) (now («chr_banks» .entry)) (now («prg_pages» .entry)) (now («chr_pages» .entry))) (memOf (now (prg .entry)) (now (chr .entry)) (now (ram .entry)) (now (ciram .entry)) (now (exram .entry))) (λ (s : State). ppuWrite s (memOf (now (prg .entry)) (now (chr .entry)) (now (ram .entry)) (now (ciram .entry)) (now (exram .entry))) addr val) ⌝ }
+    ensures { λ r. ⌜ leftMemory r (wordsAt (now (bytes .exit)) (now (halves .exit)) (now (wide .exit)) (now («prg_banks» .exit)) (now («chr_banks» .exit)) (now («prg_pages» .exit)) (now («chr_pages» .exit))) (memOf (now (prg .entry)) (now (chr .exit)) (now (ram .exit)) (now (ciram .exit)) (now (exram .exit))) ≡ onMemory (wordsAt (now (bytes .entry)) (now (halves .entry)) (now (wide .entry)) (now («prg_banks» .entry)) (now («chr_banks» .entry)) (now («prg_pages» .entry)) (now («chr_pages» .entry))) (memOf (now (prg .entry)) (now (chr .entry)) (now (ram .entry)) (now (ciram .entry)) (now (exram .entry))) (λ (s : State). ppuWrite s (memOf (now (prg .entry)) (now (chr .entry)) (now (ram .entry)) (now (ciram .entry)) (now (exram .entry))) addr val) ⌝ }
 {
     if !words::read::is_good(bytes) {
         return told::NO_STATE;

@@ -2,23 +2,12 @@
 ghost use mathlib.Core.Path.{_≡_};
 ghost use Rattle.memory.specs.Bytes.{memOf};
 ghost use Rattle.state.specs.declared.State.{State};
-ghost use Rattle.words.specs.Words.{wordsAt, pagesOf};
+ghost use Rattle.words.specs.Words.{wordsAt};
 ghost use Rattle.board.specs.CpuSide.{cpuRead};
-ghost use Rattle.cpu.specs.Writes.{prgWordAt};
-ghost use Rattle.host.specs.Hosted.{leftOf, onWords};
+ghost use Rattle.host.specs.Hosted.{leftWords, onWords};
 use answers::Answer;
 use answers::Refusal;
-use memory::PageWord;
 use state::gate::Gate;
-
-// The page word at a CPU address, in a table lent as numbers.
-pub fn word_at(numbers: &[u16; 64], addr: u16) -> PageWord
-    ensures { λ r. ⌜ r ≡ prgWordAt (pagesOf (now (numbers .entry))) addr ⌝ }
-{
-    let k = (addr / 1024) as usize;
-    let n = numbers[k];
-    PageWord(n)
-}
 
 // A CPU read.
 #[no_mangle]
@@ -37,7 +26,7 @@ pub extern "C" fn mmc5_cpu_read(
     exram: &[u8],
     addr: u16,
 ) -> u32
-    ensures { λ r. ⌜ leftOf r (wordsAt (now (bytes .exit)) (now (halves .exit)) (now (wide .exit)) (now («prg_banks» .exit)) (now («chr_banks» .exit)) (now («prg_pages» .exit)) (now («chr_pages» .exit))) ≡ onWords (wordsAt (now (bytes .entry)) (now (halves .entry)) (now (wide .entry)) (now («prg_banks» .entry)) (now («chr_banks» .entry)) (now («prg_pages» .entry)) (now («chr_pages» .entry))) (λ (s : State). cpuRead s (memOf (now (prg .entry)) (now (chr .entry)) (now (ram .entry)) (now (ciram .entry)) (now (exram .entry))) addr) ⌝ }
+    ensures { λ r. ⌜ leftWords r (wordsAt (now (bytes .exit)) (now (halves .exit)) (now (wide .exit)) (now («prg_banks» .exit)) (now («chr_banks» .exit)) (now («prg_pages» .exit)) (now («chr_pages» .exit))) ≡ onWords (wordsAt (now (bytes .entry)) (now (halves .entry)) (now (wide .entry)) (now («prg_banks» .entry)) (now («chr_banks» .entry)) (now («prg_pages» .entry)) (now («chr_pages» .entry))) (λ (s : State). cpuRead s (memOf (now (prg .entry)) (now (chr .entry)) (now (ram .entry)) (now (ciram .entry)) (now (exram .entry))) addr) ⌝ }
 {
     words::groups::known(*bytes, *halves, *wide);
     let gate = words::gate::passed(
@@ -59,7 +48,7 @@ pub extern "C" fn mmc5_cpu_read(
         return told::plain(Answer::Refused(Refusal::Audio));
     }
     let irq = words::read::detector_of(bytes, halves);
-    let word = word_at(prg_pages, addr);
+    let word = words::tables::prg_word(prg_pages, addr);
     let page = cpu::reads::page_answer(prg, chr, ram, ciram, exram, word, addr);
     let regs = words::read::regs_of(bytes, halves);
     let vsplit = words::read::split_of(bytes, halves);

@@ -3,7 +3,7 @@ ghost use mathlib.Core.Path.{_≡_};
 ghost use Rattle.state.specs.declared.State.{State};
 ghost use Rattle.words.specs.Words.{wordsAt};
 ghost use Rattle.board.specs.Whole.{resetCall, ppuRegisterCall};
-ghost use Rattle.host.specs.Hosted.{leftOf, onWords};
+ghost use Rattle.host.specs.Hosted.{leftWords, onWords};
 use memory::CpuAddr;
 
 // Modes 8k and 1k.
@@ -17,7 +17,7 @@ pub extern "C" fn mmc5_reset(
     prg_pages: &mut [u16; 64],
     chr_pages: &mut [u16; 16],
 ) -> u32
-    ensures { λ r. ⌜ leftOf r (wordsAt (now (bytes .exit)) (now (halves .exit)) (now (wide .exit)) (now («prg_banks» .exit)) (now («chr_banks» .exit)) (now («prg_pages» .exit)) (now («chr_pages» .exit))) ≡ onWords (wordsAt (now (bytes .entry)) (now (halves .entry)) (now (wide .entry)) (now («prg_banks» .entry)) (now («chr_banks» .entry)) (now («prg_pages» .entry)) (now («chr_pages» .entry))) (λ (s : State). resetCall s) ⌝ }
+    ensures { λ r. ⌜ leftWords r (wordsAt (now (bytes .exit)) (now (halves .exit)) (now (wide .exit)) (now («prg_banks» .exit)) (now («chr_banks» .exit)) (now («prg_pages» .exit)) (now («chr_pages» .exit))) ≡ onWords (wordsAt (now (bytes .entry)) (now (halves .entry)) (now (wide .entry)) (now («prg_banks» .entry)) (now («chr_banks» .entry)) (now («prg_pages» .entry)) (now («chr_pages» .entry))) (λ (s : State). resetCall s) ⌝ }
 {
     if !words::read::is_good(bytes) {
         return told::NO_STATE;
@@ -61,7 +61,7 @@ pub extern "C" fn mmc5_ppu_register(
     addr: u16,
     val: u8,
 ) -> u32
-    ensures { λ r. ⌜ leftOf r (wordsAt (now (bytes .exit)) (now (halves .exit)) (now (wide .exit)) (now («prg_banks» .exit)) (now («chr_banks» .exit)) (now («prg_pages» .exit)) (now («chr_pages» .exit))) ≡ onWords (wordsAt (now (bytes .entry)) (now (halves .entry)) (now (wide .entry)) (now («prg_banks» .entry)) (now («chr_banks» .entry)) (now («prg_pages» .entry)) (now («chr_pages» .entry))) (λ (s : State). ppuRegisterCall s addr val) ⌝ }
+    ensures { λ r. ⌜ leftWords r (wordsAt (now (bytes .exit)) (now (halves .exit)) (now (wide .exit)) (now («prg_banks» .exit)) (now («chr_banks» .exit)) (now («prg_pages» .exit)) (now («chr_pages» .exit))) ≡ onWords (wordsAt (now (bytes .entry)) (now (halves .entry)) (now (wide .entry)) (now («prg_banks» .entry)) (now («chr_banks» .entry)) (now («prg_pages» .entry)) (now («chr_pages» .entry))) (λ (s : State). ppuRegisterCall s addr val) ⌝ }
 {
     if !words::read::is_good(bytes) {
         return told::NO_STATE;

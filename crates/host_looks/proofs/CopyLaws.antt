@@ -4,23 +4,25 @@ use mathlib.Core.Bool.{Bool, true, false, not, _&&_}
 use mathlib.Core.List.{List}
 use mathlib.Core.Path.{_≡_, refl, sym, _∙_}
 use native.Mathlib.Omega.{arith}
-use borrow.Author.Tests.{not-false, eqb-true}
+use borrow.Author.Tests.{not-false, not-true, eqb-true}
 use lib.Dec.{eqb}
 use lib.ListN.{length, getD, set, length-set}
 use Rattle.memory.proofs.Tests.{and-left, and-right}
 use Rattle.words.proofs.MappedLaws.{Mapped, map-first, map-next, map-last, map-same}
-use Rattle.state.specs.declared.State.{State}
-use Rattle.words.specs.Words.{Words, good, stateOf}
-use Rattle.host_looks.specs.Pages.{copied, copiedOf, copyOn}
+use Rattle.host_looks.specs.Pages.{copied, copiedOf}
 
 pub record Copying (part start out : List ℕ) (i : ℕ) : Type 0 where
   pub long : length part ≡ 1024
   pub kept : length out ≡ length start
   pub so-far : Mapped (λ (x : ℕ). x) part out i
 
-pub copy-first : (part start : List ℕ) → not (eqb (length part) 1024 && eqb (length start) 1024) ≡ false → Copying part start start 0
-copy-first part start e =
-    let both = not-false (eqb (length part) 1024 && eqb (length start) 1024) e in
+-- What is asked of the words, the page and the room.
+abbrev pub fits : Bool → List ℕ → List ℕ → Bool
+fits good part start = good && (eqb (length part) 1024 && eqb (length start) 1024)
+
+pub copy-first : (good : Bool) (part start : List ℕ) → not (fits good part start) ≡ false → Copying part start start 0
+copy-first good part start e =
+    let both = and-right good (eqb (length part) 1024 && eqb (length start) 1024) (not-false (fits good part start) e) in
     let p : length part ≡ 1024 = eqb-true _ _ (and-left (eqb (length part) 1024) (eqb (length start) 1024) both) in
     let s : length start ≡ 1024 = eqb-true _ _ (and-right (eqb (length part) 1024) (eqb (length start) 1024) both) in
     record { long = p; kept = refl; so-far = map-first _ part start (s ∙ sym p) }
@@ -29,23 +31,13 @@ pub copy-next : (part start out : List ℕ) (i : ℕ) (x : ℕ) → Copying part
 copy-next part start out i x c h e =
     record { long = c .long; kept = length-set out i x ∙ c .kept; so-far = map-next _ part out i 0 x (c .so-far) (omega (arith, c .long)) e }
 
-pub copy-last : (part start out : List ℕ) (i : ℕ) → Copying part start out i → 1024 ≤ i → out ≡ part
+copy-last : (part start out : List ℕ) (i : ℕ) → Copying part start out i → 1024 ≤ i → out ≡ part
 copy-last part start out i c h = map-last _ part out i (c .so-far) (omega (arith, c .long)) ∙ map-same part
 
-pub copy-done : (part start out : List ℕ) (i : ℕ) → not (eqb (length part) 1024 && eqb (length start) 1024) ≡ false → Copying part start out i → 1024 ≤ i → copiedOf 1024 out ≡ copied part start
+pub copy-done : (good : Bool) (part start out : List ℕ) (i : ℕ) → not (fits good part start) ≡ false → Copying part start out i → 1024 ≤ i → copiedOf 1024 out ≡ copied good part start
 unfolding copied
-copy-done part start out i e c h = rw (e, copy-last part start out i c h)
+copy-done good part start out i e c h = rw (not-false (fits good part start) e, copy-last part start out i c h)
 
-pub copy-not : (part start : List ℕ) → not (eqb (length part) 1024 && eqb (length start) 1024) ≡ true → copiedOf 0 start ≡ copied part start
+pub copy-not : (good : Bool) (part start : List ℕ) → not (fits good part start) ≡ true → copiedOf 0 start ≡ copied good part start
 unfolding copied
-copy-not part start e = rw e
-
--- A page copied over lent words.
-pub page-stays : (w : Words) (f : State → List ℕ) (out : List ℕ) (g : Bool) → g ≡ good (w .bytes) → not g ≡ true → copiedOf 0 out ≡ copyOn w f out
-unfolding copyOn
-page-stays w f out g e t = rw (← e, t)
-
-pub page-copied : (w : Words) (f : State → List ℕ) (out out′ part : List ℕ) (g : Bool) (s : State) (n : ℕ)
-    → g ≡ good (w .bytes) → not g ≡ false → s ≡ stateOf w → part ≡ f s → copiedOf n out′ ≡ copied part out → copiedOf n out′ ≡ copyOn w f out
-unfolding copyOn
-page-copied w f out out′ part g s n e t es ep ec = rw (← e, t, ← es, ← ep) ec
+copy-not good part start e = rw (not-true (fits good part start) e)

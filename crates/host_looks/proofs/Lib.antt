@@ -1,3 +1,2 @@
 pub mod LookLaws
 pub mod CopyLaws
-pub mod EntryLaws

@@ -1,17 +1,18 @@
 -- What the page tables hold, for the host: an entry as one number, and a page's bytes copied out.
 use Prim.Native.Nat.{ℕ, _+_, _*_, _%_}
-use mathlib.Core.Bool.{Bool, not, _&&_}
+use mathlib.Core.Bool.{Bool, _&&_}
 use mathlib.Core.List.{List}
 use lib.Dec.{eqb}
 use lib.ListN.{length}
 use Rattle.memory.specs.declared.Page.{Page}
 use Rattle.memory.specs.declared.Src.{Src}
 use Rattle.memory.specs.declared.Src.the-variants.{Blank, PrgRom, PrgRam, Chr, CiRam, ExRam}
-use Rattle.memory.specs.Words.{pick, pageOf}
+use Rattle.memory.specs.Words.{pick}
+use Rattle.answers.specs.declared.Answer.the-variants.{Refused}
+use Rattle.answers.specs.declared.Refusal.the-variants.{State as StateBroken}
+use Rattle.answers.specs.Letters.{letterOf, valueOf}
 use Rattle.state.specs.declared.State.{State}
-use Rattle.state.specs.Ranges.{inRange}
-use Rattle.cpu.specs.Writes.{prgWordAt}
-use Rattle.board_ppu.specs.Peeks.{chrWordAt}
+use Rattle.words.specs.Gate.{wordsInRange}
 use Rattle.words.specs.Words.{Words, good, stateOf}
 
 -- Blank, or a buffer.
@@ -33,16 +34,11 @@ entryNumber p = sourceNumber (p .src) * 65536 + withinBuffer (p .index) (p .writ
 
 -- No buffer has this number: `!`, and refusal 5.
 abbrev pub noEntry : ℕ
-noEntry = 0x21 * 65536 + 5
+noEntry = letterOf (Refused StateBroken) * 65536 + valueOf (Refused StateBroken)
 
-unfoldable pub prgEntry : State → ℕ → ℕ
-prgEntry s a = pick (not (inRange s)) noEntry (entryNumber (pageOf (prgWordAt (s .«prg_pages») a)))
-
-unfoldable pub chrEntry : State → ℕ → ℕ
-chrEntry s a = pick (not (inRange s)) noEntry (entryNumber (pageOf (chrWordAt (s .«chr_pages») a)))
-
-unfoldable pub entryOn : Words → (State → ℕ) → ℕ
-entryOn w f = pick (not (good (w .bytes))) noEntry (f (stateOf w))
+-- The entry that is told of words that are a state in range.
+unfoldable pub entryOn : Words → (State → Page) → ℕ
+entryOn w f = pick (wordsInRange w) (entryNumber (f (stateOf w))) noEntry
 
 -- A copy: how many bytes, and what they are copied to.
 pub record Copied : Type 0 where
@@ -53,8 +49,8 @@ abbrev pub copiedOf : ℕ → List ℕ → Copied
 copiedOf n l = record { count = n; bytes = l }
 
 -- 1,024 bytes are copied, from a whole page to a buffer of just so many; else none, and the buffer stays.
-unfoldable pub copied : List ℕ → List ℕ → Copied
-copied part out = pick (not (eqb (length part) 1024 && eqb (length out) 1024)) (copiedOf 0 out) (copiedOf 1024 part)
+unfoldable pub copied : Bool → List ℕ → List ℕ → Copied
+copied good part out = pick (good && (eqb (length part) 1024 && eqb (length out) 1024)) (copiedOf 1024 part) (copiedOf 0 out)
 
 unfoldable pub copyOn : Words → (State → List ℕ) → List ℕ → Copied
-copyOn w f out = pick (not (good (w .bytes))) (copiedOf 0 out) (copied (f (stateOf w)) out)
+copyOn w f out = copied (good (w .bytes)) (f (stateOf w)) out

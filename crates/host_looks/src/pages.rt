@@ -1,17 +1,24 @@
 // What the page tables hold: an entry, and the bytes that a page shows, copied out.
 ghost use mathlib.Core.Path.{_≡_};
 ghost use Rattle.memory.specs.Bytes.{memOf};
+ghost use Rattle.memory.specs.Words.{pick, pageOf};
 ghost use Rattle.state.specs.declared.State.{State};
+ghost use Rattle.cpu.specs.Writes.{prgWordAt};
+ghost use Rattle.board_ppu.specs.Peeks.{chrWordAt};
 ghost use Rattle.views.specs.Views.{cpuView, ppuView};
 ghost use Rattle.words.specs.Words.{wordsAt};
-ghost use Rattle.host_looks.specs.Pages.{withinBuffer, entryNumber, prgEntry, chrEntry, entryOn, copied, copiedOf, copyOn};
+ghost use Rattle.host_looks.specs.Pages.{withinBuffer, entryNumber, noEntry, entryOn, copied, copiedOf, copyOn};
 use memory::CpuAddr;
 use memory::Page;
 use memory::PpuAddr;
 use memory::Src;
 
-// Words that are no state, and a state out of range: `!` in the buffer's place, and 5.
-const NO_ENTRY: u32 = 2162693;
+// An entry of words that are a state in range; of others `!` in the buffer's place, and 5.
+fn if_in_range(good: bool, number: u32) -> u32
+    ensures { λ r. ⌜ r ≡ pick good number noEntry ⌝ }
+{
+    if good { number } else { 2162693 }
+}
 
 // A page's number in its buffer, with a mark where it takes writes.
 fn within(index: u32, writable: bool) -> u16
@@ -52,27 +59,12 @@ pub extern "C" fn mmc5_cpu_entry(
     chr_pages: &[u16; 16],
     addr: u16,
 ) -> u32
-    ensures { λ r. ⌜ r ≡ entryOn (wordsAt (now (bytes .entry)) (now (halves .entry)) (now (wide .entry)) (now («prg_banks» .entry)) (now («chr_banks» .entry)) (now («prg_pages» .entry)) (now («chr_pages» .entry))) (λ (s : State). prgEntry s addr) ⌝ }
+    ensures { λ r. ⌜ r ≡ entryOn (wordsAt (now (bytes .entry)) (now (halves .entry)) (now (wide .entry)) (now («prg_banks» .entry)) (now («chr_banks» .entry)) (now («prg_pages» .entry)) (now («chr_pages» .entry))) (λ (s : State). pageOf (prgWordAt (s .«prg_pages») addr)) ⌝ }
 {
-    if !words::read::is_good(bytes) {
-        return NO_ENTRY;
-    }
-    let s = words::read::state_of(
-        bytes,
-        halves,
-        wide,
-        prg_banks,
-        chr_banks,
-        prg_pages,
-        chr_pages,
-    );
-    if !state::ranges::in_range(s) {
-        return NO_ENTRY;
-    }
-    let pages = s.prg_pages;
-    let word = cpu::writes::prg_word_at(pages, addr);
+    let good = words::ranges::words_in_range(bytes, halves, wide, prg_pages, chr_pages);
+    let word = words::tables::prg_word(prg_pages, addr);
     let page = memory::words::page_of(word);
-    entry_number(page)
+    if_in_range(good, entry_number(page))
 }
 
 // The CHR table's entry at a PPU address.
@@ -87,34 +79,19 @@ pub extern "C" fn mmc5_ppu_entry(
     chr_pages: &[u16; 16],
     addr: u16,
 ) -> u32
-    ensures { λ r. ⌜ r ≡ entryOn (wordsAt (now (bytes .entry)) (now (halves .entry)) (now (wide .entry)) (now («prg_banks» .entry)) (now («chr_banks» .entry)) (now («prg_pages» .entry)) (now («chr_pages» .entry))) (λ (s : State). chrEntry s addr) ⌝ }
+    ensures { λ r. ⌜ r ≡ entryOn (wordsAt (now (bytes .entry)) (now (halves .entry)) (now (wide .entry)) (now («prg_banks» .entry)) (now («chr_banks» .entry)) (now («prg_pages» .entry)) (now («chr_pages» .entry))) (λ (s : State). pageOf (chrWordAt (s .«chr_pages») addr)) ⌝ }
 {
-    if !words::read::is_good(bytes) {
-        return NO_ENTRY;
-    }
-    let s = words::read::state_of(
-        bytes,
-        halves,
-        wide,
-        prg_banks,
-        chr_banks,
-        prg_pages,
-        chr_pages,
-    );
-    if !state::ranges::in_range(s) {
-        return NO_ENTRY;
-    }
-    let pages = s.chr_pages;
-    let word = board_ppu::pages::chr_word_at(pages, addr);
+    let good = words::ranges::words_in_range(bytes, halves, wide, prg_pages, chr_pages);
+    let word = words::tables::chr_word(chr_pages, addr);
     let page = memory::words::page_of(word);
-    entry_number(page)
+    if_in_range(good, entry_number(page))
 }
 
-// A page's bytes, copied where there are 1,024 of them and room for just so many: how many.
-fn copy(part: &[u8], out: &mut [u8]) -> u32
-    ensures { λ r. ⌜ copiedOf r (now (out .exit)) ≡ copied (now (part .entry)) (now (out .entry)) ⌝ }
+// A page's bytes, copied where the words are a state and there are 1,024 bytes and room for just so many: how many.
+fn copy(good: bool, part: &[u8], out: &mut [u8]) -> u32
+    ensures { λ r. ⌜ copiedOf r (now (out .exit)) ≡ copied good (now (part .entry)) (now (out .entry)) ⌝ }
 {
-    let whole = (part.len() == 1024) & (out.len() == 1024);
+    let whole = good & ((part.len() == 1024) & (out.len() == 1024));
     if !whole {
         return 0;
     }
@@ -146,9 +123,7 @@ pub extern "C" fn mmc5_cpu_page<'a>(
 ) -> u32
     ensures { λ r. ⌜ copiedOf r (now (out .exit)) ≡ copyOn (wordsAt (now (bytes .entry)) (now (halves .entry)) (now (wide .entry)) (now («prg_banks» .entry)) (now («chr_banks» .entry)) (now («prg_pages» .entry)) (now («chr_pages» .entry))) (λ (s : State). cpuView s (memOf (now (prg .entry)) (now (chr .entry)) (now (ram .entry)) (now (ciram .entry)) (now (exram .entry))) addr) (now (out .entry)) ⌝ }
 {
-    if !words::read::is_good(bytes) {
-        return 0;
-    }
+    let good = words::read::is_good(bytes);
     let s = words::read::state_of(
         bytes,
         halves,
@@ -159,7 +134,7 @@ pub extern "C" fn mmc5_cpu_page<'a>(
         chr_pages,
     );
     let part = views::cpu_view(s, prg, chr, ram, ciram, exram, CpuAddr(addr));
-    copy(part, out)
+    copy(good, part, out)
 }
 
 // The bytes that the page at a PPU address shows of CHR.
@@ -182,9 +157,7 @@ pub extern "C" fn mmc5_ppu_page(
 ) -> u32
     ensures { λ r. ⌜ copiedOf r (now (out .exit)) ≡ copyOn (wordsAt (now (bytes .entry)) (now (halves .entry)) (now (wide .entry)) (now («prg_banks» .entry)) (now («chr_banks» .entry)) (now («prg_pages» .entry)) (now («chr_pages» .entry))) (λ (s : State). ppuView s (memOf (now (prg .entry)) (now (chr .entry)) (now (ram .entry)) (now (ciram .entry)) (now (exram .entry))) addr) (now (out .entry)) ⌝ }
 {
-    if !words::read::is_good(bytes) {
-        return 0;
-    }
+    let good = words::read::is_good(bytes);
     let s = words::read::state_of(
         bytes,
         halves,
@@ -195,5 +168,5 @@ pub extern "C" fn mmc5_ppu_page(
         chr_pages,
     );
     let part = views::ppu_view(s, prg, chr, ram, ciram, exram, PpuAddr(addr));
-    copy(part, out)
+    copy(good, part, out)
 }

@@ -5,7 +5,8 @@ ghost use Rattle.words.specs.Words.{wordsAt};
 ghost use Rattle.memory.specs.Bytes.{memOf};
 ghost use Rattle.board.specs.CpuSide.{cpuPeek};
 ghost use Rattle.board_ppu.specs.Peeks.{ppuPeek, spritePeek};
-ghost use Rattle.host_looks.specs.Looks.{peekOn};
+ghost use Rattle.told.specs.Told.{toldPlain};
+ghost use Rattle.host_looks.specs.Looks.{lookOn};
 use memory::CpuAddr;
 use memory::PpuAddr;
 
@@ -26,11 +27,9 @@ pub extern "C" fn mmc5_cpu_peek(
     exram: &[u8],
     addr: u16,
 ) -> u32
-    ensures { λ r. ⌜ r ≡ peekOn (wordsAt (now (bytes .entry)) (now (halves .entry)) (now (wide .entry)) (now («prg_banks» .entry)) (now («chr_banks» .entry)) (now («prg_pages» .entry)) (now («chr_pages» .entry))) (λ (s : State). cpuPeek s (memOf (now (prg .entry)) (now (chr .entry)) (now (ram .entry)) (now (ciram .entry)) (now (exram .entry))) addr) ⌝ }
+    ensures { λ r. ⌜ r ≡ lookOn (wordsAt (now (bytes .entry)) (now (halves .entry)) (now (wide .entry)) (now («prg_banks» .entry)) (now («chr_banks» .entry)) (now («prg_pages» .entry)) (now («chr_pages» .entry))) toldPlain (λ (s : State). cpuPeek s (memOf (now (prg .entry)) (now (chr .entry)) (now (ram .entry)) (now (ciram .entry)) (now (exram .entry))) addr) ⌝ }
 {
-    if !words::read::is_good(bytes) {
-        return told::NO_STATE;
-    }
+    let good = words::read::is_good(bytes);
     let s = words::read::state_of(
         bytes,
         halves,
@@ -41,7 +40,7 @@ pub extern "C" fn mmc5_cpu_peek(
         chr_pages,
     );
     let answer = board::cpu_side::cpu_peek(s, prg, chr, ram, ciram, exram, CpuAddr(addr));
-    told::plain(answer)
+    told::if_good(good, told::plain(answer))
 }
 
 // A PPU peek.
@@ -61,11 +60,9 @@ pub extern "C" fn mmc5_ppu_peek(
     exram: &[u8],
     addr: u16,
 ) -> u32
-    ensures { λ r. ⌜ r ≡ peekOn (wordsAt (now (bytes .entry)) (now (halves .entry)) (now (wide .entry)) (now («prg_banks» .entry)) (now («chr_banks» .entry)) (now («prg_pages» .entry)) (now («chr_pages» .entry))) (λ (s : State). ppuPeek s (memOf (now (prg .entry)) (now (chr .entry)) (now (ram .entry)) (now (ciram .entry)) (now (exram .entry))) addr) ⌝ }
+    ensures { λ r. ⌜ r ≡ lookOn (wordsAt (now (bytes .entry)) (now (halves .entry)) (now (wide .entry)) (now («prg_banks» .entry)) (now («chr_banks» .entry)) (now («prg_pages» .entry)) (now («chr_pages» .entry))) toldPlain (λ (s : State). ppuPeek s (memOf (now (prg .entry)) (now (chr .entry)) (now (ram .entry)) (now (ciram .entry)) (now (exram .entry))) addr) ⌝ }
 {
-    if !words::read::is_good(bytes) {
-        return told::NO_STATE;
-    }
+    let good = words::read::is_good(bytes);
     let s = words::read::state_of(
         bytes,
         halves,
@@ -76,7 +73,7 @@ pub extern "C" fn mmc5_ppu_peek(
         chr_pages,
     );
     let answer = board_ppu::peeks::ppu_peek(s, prg, chr, ram, ciram, exram, PpuAddr(addr));
-    told::plain(answer)
+    told::if_good(good, told::plain(answer))
 }
 
 // A sprite peek.
@@ -96,11 +93,9 @@ pub extern "C" fn mmc5_sprite_peek(
     exram: &[u8],
     addr: u16,
 ) -> u32
-    ensures { λ r. ⌜ r ≡ peekOn (wordsAt (now (bytes .entry)) (now (halves .entry)) (now (wide .entry)) (now («prg_banks» .entry)) (now («chr_banks» .entry)) (now («prg_pages» .entry)) (now («chr_pages» .entry))) (λ (s : State). spritePeek s (memOf (now (prg .entry)) (now (chr .entry)) (now (ram .entry)) (now (ciram .entry)) (now (exram .entry))) addr) ⌝ }
+    ensures { λ r. ⌜ r ≡ lookOn (wordsAt (now (bytes .entry)) (now (halves .entry)) (now (wide .entry)) (now («prg_banks» .entry)) (now («chr_banks» .entry)) (now («prg_pages» .entry)) (now («chr_pages» .entry))) toldPlain (λ (s : State). spritePeek s (memOf (now (prg .entry)) (now (chr .entry)) (now (ram .entry)) (now (ciram .entry)) (now (exram .entry))) addr) ⌝ }
 {
-    if !words::read::is_good(bytes) {
-        return told::NO_STATE;
-    }
+    let good = words::read::is_good(bytes);
     let s = words::read::state_of(
         bytes,
         halves,
@@ -111,5 +106,5 @@ pub extern "C" fn mmc5_sprite_peek(
         chr_pages,
     );
     let answer = board_ppu::peeks::sprite_peek(s, prg, chr, ram, ciram, exram, PpuAddr(addr));
-    told::plain(answer)
+    told::if_good(good, told::plain(answer))
 }

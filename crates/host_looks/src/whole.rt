@@ -3,7 +3,8 @@ ghost use mathlib.Core.Path.{_≡_};
 ghost use Rattle.state.specs.declared.State.{State};
 ghost use Rattle.words.specs.Words.{wordsAt};
 ghost use Rattle.board.specs.Whole.{mirroringCall, interruptCall};
-ghost use Rattle.host_looks.specs.Looks.{mirroringOn, interruptOn};
+ghost use Rattle.told.specs.Told.{mirroringTold, interruptTold};
+ghost use Rattle.host_looks.specs.Looks.{lookOn};
 
 // The mirroring, 0 to 4.
 #[no_mangle]
@@ -16,11 +17,9 @@ pub extern "C" fn mmc5_mirroring(
     prg_pages: &[u16; 64],
     chr_pages: &[u16; 16],
 ) -> u32
-    ensures { λ r. ⌜ r ≡ mirroringOn (wordsAt (now (bytes .entry)) (now (halves .entry)) (now (wide .entry)) (now («prg_banks» .entry)) (now («chr_banks» .entry)) (now («prg_pages» .entry)) (now («chr_pages» .entry))) (λ (s : State). mirroringCall s) ⌝ }
+    ensures { λ r. ⌜ r ≡ lookOn (wordsAt (now (bytes .entry)) (now (halves .entry)) (now (wide .entry)) (now («prg_banks» .entry)) (now («chr_banks» .entry)) (now («prg_pages» .entry)) (now («chr_pages» .entry))) mirroringTold (λ (s : State). mirroringCall s) ⌝ }
 {
-    if !words::read::is_good(bytes) {
-        return told::NO_STATE;
-    }
+    let good = words::read::is_good(bytes);
     let s = words::read::state_of(
         bytes,
         halves,
@@ -31,7 +30,7 @@ pub extern "C" fn mmc5_mirroring(
         chr_pages,
     );
     let m = board::whole::mirroring(s);
-    told::mirroring(m)
+    told::if_good(good, told::mirroring(m))
 }
 
 // Whether the interrupt is up, 0 or 1.
@@ -45,11 +44,9 @@ pub extern "C" fn mmc5_interrupt(
     prg_pages: &[u16; 64],
     chr_pages: &[u16; 16],
 ) -> u32
-    ensures { λ r. ⌜ r ≡ interruptOn (wordsAt (now (bytes .entry)) (now (halves .entry)) (now (wide .entry)) (now («prg_banks» .entry)) (now («chr_banks» .entry)) (now («prg_pages» .entry)) (now («chr_pages» .entry))) (λ (s : State). interruptCall s) ⌝ }
+    ensures { λ r. ⌜ r ≡ lookOn (wordsAt (now (bytes .entry)) (now (halves .entry)) (now (wide .entry)) (now («prg_banks» .entry)) (now («chr_banks» .entry)) (now («prg_pages» .entry)) (now («chr_pages» .entry))) interruptTold (λ (s : State). interruptCall s) ⌝ }
 {
-    if !words::read::is_good(bytes) {
-        return told::NO_STATE;
-    }
+    let good = words::read::is_good(bytes);
     let s = words::read::state_of(
         bytes,
         halves,
@@ -60,5 +57,5 @@ pub extern "C" fn mmc5_interrupt(
         chr_pages,
     );
     let i = board::whole::interrupt_up(s);
-    told::interrupt(i)
+    told::if_good(good, told::interrupt(i))
 }

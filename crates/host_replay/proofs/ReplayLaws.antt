@@ -27,22 +27,22 @@ use Rattle.player.proofs.Ways.{by-found, by-answer}
 use Rattle.words.specs.Promise.{Lent}
 use Rattle.words.specs.Words.{Words, good, stateOf, wordsOf}
 use Rattle.words.proofs.RoundLaws.{words-back}
-use Rattle.host_replay.specs.Promise.{Apart, Promised}
-use Rattle.host_replay.specs.Replays.{Hosted, endingTold, lastOf, hostedOf, hosting, replayOn}
+use Rattle.host_replay.specs.Promise.{TakenApart, ReplayPromised}
+use Rattle.host_replay.specs.Replays.{LeftReplay, endingTold, lastOf, leftReplay, leavingReplay, replayOn}
 
 pub too-long-stays : (w : Words) (trace : List ℕ) (m : Mem) (log : List ℕ) (b : Bool) → b ≡ tooLong (length trace) → b ≡ true
-    → hostedOf 720896 w m log ≡ replayOn w trace m log
+    → leftReplay 720896 w m log ≡ replayOn w trace m log
 unfolding replayOn
 too-long-stays w trace m log b e t = rw (← e, t)
 
 pub no-state-stays : (w : Words) (trace : List ℕ) (m : Mem) (log : List ℕ) (b g : Bool) → b ≡ tooLong (length trace) → b ≡ false → g ≡ good (w .bytes) → not g ≡ true
-    → hostedOf 327680 w m log ≡ replayOn w trace m log
+    → leftReplay 327680 w m log ≡ replayOn w trace m log
 unfolding replayOn
 no-state-stays w trace m log b g eb tb e t = rw (← eb, tb, ← e, t)
 
 pub replay-left : (w v : Words) (trace : List ℕ) (m m′ : Mem) (log log′ : List ℕ) (b g : Bool) (s : State) (o : Replayed) (n : ℕ)
     → b ≡ tooLong (length trace) → b ≡ false → g ≡ good (w .bytes) → not g ≡ false → s ≡ stateOf w → leftOf o m′ log′ ≡ replayed s trace m log → v ≡ wordsOf (o .state)
-    → n ≡ endingTold (o .ending) → hostedOf n v m′ log′ ≡ replayOn w trace m log
+    → n ≡ endingTold (o .ending) → leftReplay n v m′ log′ ≡ replayOn w trace m log
 unfolding replayOn
 replay-left w v trace m m′ log log′ b g s o n eb tb e t es eo ev en = rw (← eb, tb, ← e, t, en, ev, ← es, ← eo)
 
@@ -80,7 +80,7 @@ done-short e count t h = rw t at h
 pub stopped-short : (e : Ending) (place : ℕ) (why : Refusal) → e ≡ Stopped place why → lastOf e ≤ 8192 → place ≤ 8192
 stopped-short e place why t h = rw t at h
 
-pub apart-of : (e : Ending) → lastOf e ≤ 8192 → Apart e
+pub apart-of : (e : Ending) → lastOf e ≤ 8192 → TakenApart e
 apart-of (Done n) h = (omega (arith, h), omega (arith, h))
 apart-of (Stopped place why) h = (omega (arith, h), omega (arith, h))
 
@@ -120,15 +120,15 @@ replayed-stays s trace m log =
     split (tooLong (length trace)) (λ t. rw t (λ a b. refl))
     (λ t. rw t (by-gate (Stays s m log) (gateMem s m) _ _ (λ why a b. refl) (first-stays (length trace + 1) trace s m log (ltb-false 8192 (length trace) t))))
 
-abbrev Same : Words → Mem → List ℕ → Hosted → Type 0
-Same w m log h = 65536 ≤ h .number → h .number % 65536 ≡ 0 → h ≡ hostedOf (h .number) w m log
+abbrev Same : Words → Mem → List ℕ → LeftReplay → Type 0
+Same w m log h = 65536 ≤ h .number → h .number % 65536 ≡ 0 → h ≡ leftReplay (h .number) w m log
 
-hosting-same : (w : Words) (trace : List ℕ) (m : Mem) (log : List ℕ) → Lent w → good (w .bytes) ≡ true → Same w m log (hosting (replayed (stateOf w) trace m log))
+hosting-same : (w : Words) (trace : List ℕ) (m : Mem) (log : List ℕ) → Lent w → good (w .bytes) ≡ true → Same w m log (leavingReplay (replayed (stateOf w) trace m log))
 hosting-same w trace m log lent g a b =
-    ap hosting (replayed-stays (stateOf w) trace m log a b)
-    ∙ ap (λ (v : Words). hostedOf (endingTold (replayed (stateOf w) trace m log .out .ending)) v m log) (words-back w (lent .bytes) (lent .halves) (lent .wide) g)
+    ap leavingReplay (replayed-stays (stateOf w) trace m log a b)
+    ∙ ap (λ (v : Words). leftReplay (endingTold (replayed (stateOf w) trace m log .out .ending)) v m log) (words-back w (lent .bytes) (lent .halves) (lent .wide) g)
 
-on-good : (w : Words) (m : Mem) (log : List ℕ) (x : Hosted) (g : Bool) → (g ≡ true → Same w m log x) → Same w m log (pick (not g) (hostedOf 327680 w m log) x)
+on-good : (w : Words) (m : Mem) (log : List ℕ) (x : LeftReplay) (g : Bool) → (g ≡ true → Same w m log x) → Same w m log (pick (not g) (leftReplay 327680 w m log) x)
 on-good w m log x true s = s refl
 on-good w m log x false s = λ a b. refl
 
@@ -138,7 +138,7 @@ same-on w trace m log lent =
     split (tooLong (length trace)) (λ t. rw t (λ a b. refl))
     (λ t. rw t (on-good w m log _ (good (w .bytes)) (hosting-same w trace m log lent)))
 
-pub promised : Promised
+pub promised : ReplayPromised
 promised =
     record {
       apart = λ s trace m log. apart-of (replayed s trace m log .out .ending) (short s trace m log);

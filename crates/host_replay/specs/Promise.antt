@@ -8,14 +8,14 @@ use Rattle.player.specs.declared.Ending.{Ending}
 use Rattle.player.specs.Replay.{replayed}
 use Rattle.words.specs.Promise.{Lent}
 use Rattle.words.specs.Words.{Words}
-use Rattle.host_replay.specs.Replays.{endingTold, lastOf, refusalIn, hostedOf, replayOn}
+use Rattle.host_replay.specs.Replays.{endingTold, lastOf, refusalIn, leftReplay, replayOn}
 
 -- The number can be taken apart: no count and no place reaches 65,536.
-abbrev pub Apart : Ending → Type 0
-Apart e = (endingTold e / 65536 ≡ refusalIn e) × (endingTold e % 65536 ≡ lastOf e)
+abbrev pub TakenApart : Ending → Type 0
+TakenApart e = (endingTold e / 65536 ≡ refusalIn e) × (endingTold e % 65536 ≡ lastOf e)
 
-pub record Promised : Type 0 where
-  pub apart : (s : State) (trace : List ℕ) (m : Mem) (log : List ℕ) → Apart (replayed s trace m log .out .ending)
+pub record ReplayPromised : Type 0 where
+  pub apart : (s : State) (trace : List ℕ) (m : Mem) (log : List ℕ) → TakenApart (replayed s trace m log .out .ending)
   -- A replay that stopped at place 0, for 11, 4, 5 or by its first record, left every word, byte and log entry as it was.
   pub unchanged : (w : Words) (trace : List ℕ) (m : Mem) (log : List ℕ) → Lent w → 65536 ≤ replayOn w trace m log .number → replayOn w trace m log .number % 65536 ≡ 0
-      → replayOn w trace m log ≡ hostedOf (replayOn w trace m log .number) w m log
+      → replayOn w trace m log ≡ leftReplay (replayOn w trace m log .number) w m log

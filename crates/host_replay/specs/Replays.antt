@@ -20,23 +20,23 @@ endingTold (Done count) = count
 endingTold (Stopped place why) = 65536 * numberOf why + place
 
 -- What a replay leaves: its number, the words, the five buffers and the log.
-pub record Hosted : Type 0 where
+pub record LeftReplay : Type 0 where
   pub number : ℕ
   pub words : Words
   pub mem : Mem
   pub log : List ℕ
 
-abbrev pub hostedOf : ℕ → Words → Mem → List ℕ → Hosted
-hostedOf n w m log = record { number = n; words = w; mem = m; log = log }
+abbrev pub leftReplay : ℕ → Words → Mem → List ℕ → LeftReplay
+leftReplay n w m log = record { number = n; words = w; mem = m; log = log }
 
-abbrev pub hosting : Left → Hosted
-hosting x = hostedOf (endingTold (x .out .ending)) (wordsOf (x .out .state)) (x .mem) (x .log)
+abbrev pub leavingReplay : Left → LeftReplay
+leavingReplay x = leftReplay (endingTold (x .out .ending)) (wordsOf (x .out .state)) (x .mem) (x .log)
 
-unfoldable pub replayOn : Words → List ℕ → Mem → List ℕ → Hosted
+unfoldable pub replayOn : Words → List ℕ → Mem → List ℕ → LeftReplay
 replayOn w trace m log =
-    pick (tooLong (length trace)) (hostedOf (endingTold (Stopped 0 Length)) w m log)
-    (pick (not (good (w .bytes))) (hostedOf (endingTold (Stopped 0 StateBroken)) w m log)
-    (hosting (replayed (stateOf w) trace m log)))
+    pick (tooLong (length trace)) (leftReplay (endingTold (Stopped 0 Length)) w m log)
+    (pick (not (good (w .bytes))) (leftReplay (endingTold (Stopped 0 StateBroken)) w m log)
+    (leavingReplay (replayed (stateOf w) trace m log)))
 
 -- The count, or the place.
 abbrev pub lastOf : Ending → ℕ

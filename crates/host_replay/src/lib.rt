@@ -4,8 +4,8 @@ ghost use mathlib.Core.Path.{_≡_};
 ghost use Prim.Native.Nat.{_≤_};
 ghost use Rattle.memory.specs.Bytes.{memOf};
 ghost use Rattle.words.specs.Words.{wordsAt};
-ghost use Rattle.host_replay.specs.Promise.{Promised};
-ghost use Rattle.host_replay.specs.Replays.{endingTold, lastOf, hostedOf, replayOn};
+ghost use Rattle.host_replay.specs.Promise.{ReplayPromised};
+ghost use Rattle.host_replay.specs.Replays.{endingTold, lastOf, leftReplay, replayOn};
 use player::Ending;
 
 // 11 and 5, at place 0.
@@ -43,7 +43,7 @@ pub extern "C" fn mmc5_replay(
     trace: &[u8],
     log: &mut [u8],
 ) -> u32
-    ensures { λ r. ⌜ hostedOf r (wordsAt (now (bytes .exit)) (now (halves .exit)) (now (wide .exit)) (now («prg_banks» .exit)) (now («chr_banks» .exit)) (now («prg_pages» .exit)) (now («chr_pages» .exit))) (memOf (now (prg .entry)) (now (chr .exit)) (now (ram .exit)) (now (ciram .exit)) (now (exram .exit))) (now (log .exit))
+    ensures { λ r. ⌜ leftReplay r (wordsAt (now (bytes .exit)) (now (halves .exit)) (now (wide .exit)) (now («prg_banks» .exit)) (now («chr_banks» .exit)) (now («prg_pages» .exit)) (now («chr_pages» .exit))) (memOf (now (prg .entry)) (now (chr .exit)) (now (ram .exit)) (now (ciram .exit)) (now (exram .exit))) (now (log .exit))
         ≡ replayOn (wordsAt (now (bytes .entry)) (now (halves .entry)) (now (wide .entry)) (now («prg_banks» .entry)) (now («chr_banks» .entry)) (now («prg_pages» .entry)) (now («chr_pages» .entry))) (now (trace .entry)) (memOf (now (prg .entry)) (now (chr .entry)) (now (ram .entry)) (now (ciram .entry)) (now (exram .entry))) (now (log .entry)) ⌝ }
 {
     if trace::too_long(trace.len()) {
@@ -79,5 +79,5 @@ pub extern "C" fn mmc5_replay(
 
 // No code: its contract holds that the number can be taken apart, and that a replay refused at place 0 changes nothing.
 pub fn promises()
-    ensures { λ _. ⌜ Promised ⌝ }
+    ensures { λ _. ⌜ ReplayPromised ⌝ }
 {}

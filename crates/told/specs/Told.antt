@@ -6,7 +6,6 @@ use Rattle.answers.specs.declared.Answer.{Answer}
 use Rattle.answers.specs.declared.Answer.the-variants.{Nothing, Register, Served, Page, Blank, Refused}
 use Rattle.answers.specs.declared.Refusal.the-variants.{State as StateBroken}
 use Rattle.answers.specs.Letters.{letterOf, valueOf}
-use Rattle.answers.specs.Numbers.{numberOf}
 use Rattle.board.specs.declared.Interrupt.{Interrupt}
 use Rattle.board.specs.declared.Interrupt.the-variants.{Up, Down, Refused as InterruptRefused}
 use Rattle.board.specs.declared.Told.{Told}
@@ -36,15 +35,13 @@ taken (Refused r) = false
 abbrev pub toldWith : Answer → Detector → ℕ
 toldWith a d = pick (taken a && interruptUp d) (toldPlain a + 32768) (toldPlain a)
 
--- `!`, times 256
-abbrev pub refusedAs : ℕ
-refusedAs = 8448
-
+-- The mirroring, or a refusal.
 abbrev pub mirroringTold : Told → ℕ
 mirroringTold (Is m) = numberOfMirroring m
-mirroringTold (MirroringRefused r) = refusedAs + numberOf r
+mirroringTold (MirroringRefused r) = toldPlain (Refused r)
 
+-- 1 where the interrupt is up, 0 where it is down, or a refusal.
 abbrev pub interruptTold : Interrupt → ℕ
 interruptTold Up = 1
 interruptTold Down = 0
-interruptTold (InterruptRefused r) = refusedAs + numberOf r
+interruptTold (InterruptRefused r) = toldPlain (Refused r)

@@ -4,25 +4,22 @@ use mathlib.Core.Bool.{Bool, true, false, _&&_}
 use mathlib.Core.List.{List, [], _∷_, _++_, map}
 use mathlib.Core.Path.{_≡_, refl, sym, ap, _∙_}
 use native.Mathlib.Omega.{arith}
-use borrow.Author.Tests.{le-leb, leb-true, ltb-true, ltb-false}
-use lib.Dec.{leb, ltb}
+use lib.Dec.{leb, ltb, leb·suc-suc}
 use lib.ListN.{length, take, getD}
 use Rattle.memory.specs.Tables.{all}
 use Rattle.memory.specs.Tests.{conj}
 use Rattle.memory.specs.Words.{pick}
 use Rattle.memory.proofs.TableLaws.{Tested, test-first, test-next}
-use Rattle.memory.proofs.Tests.{split, and-false}
+use Rattle.memory.proofs.Tests.{split}
 use Rattle.words.specs.Words.{flagTests, good}
+use Rattle.words.proofs.MappedLaws.{larger-test}
 use Rattle.words.proofs.RoundLaws.{upFrom, listed}
 
 abbrev isFlag : ℕ → Bool
 isFlag n = leb n 1
 
 larger-flag : (a b : ℕ) → isFlag (pick (ltb a b) b a) ≡ isFlag a && isFlag b
-larger-flag a b =
-    split (ltb a b)
-    (λ y. rw y (split (leb b 1) (λ k. rw (k, le-leb a 1 (omega (arith, ltb-true a b y, leb-true b 1 k)))) (λ k. rw (k, and-false (leb a 1)))))
-    (λ n. rw n (split (leb a 1) (λ k. rw (k, le-leb b 1 (omega (arith, ltb-false a b n, leb-true a 1 k)))) (λ k. rw k)))
+larger-flag a b = sym (leb·suc-suc (pick (ltb a b) b a) 1) ∙ (larger-test a b 2 ∙ rw (leb·suc-suc a 1, leb·suc-suc b 1))
 
 abbrev pub Largest : List ℕ → ℕ → ℕ → Type 0
 Largest l top i = Tested isFlag l (isFlag top) i

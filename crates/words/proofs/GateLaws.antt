@@ -12,7 +12,7 @@ use Rattle.state.specs.declared.State.{State}
 use Rattle.state.specs.Gate.{gateOf, sameLengths}
 use Rattle.state.specs.Ranges.{inRange}
 use Rattle.state.proofs.GateLaws.{passes, shut-not-open}
-use Rattle.words.specs.Gate.{whole, gateOn}
+use Rattle.words.specs.Gate.{wordsInRange, gateOn}
 use Rattle.words.specs.Words.{Words, wordsAt, good, lengthsOf, stateOf}
 
 -- The gate of a state, by the record of its lengths.
@@ -28,9 +28,9 @@ shut-ranges : (s : State) (p c r i e : ℕ) → not (s .lengths .loaded) ≡ fal
 unfolding gateOf
 shut-ranges s p c r i e l t f = rw (l, t, f)
 
-module _ (w : Words) (z : Lengths) (o b : Bool) (p c r i e : ℕ) (ez : z ≡ lengthsOf (w .bytes) (w .wide)) (eb : b ≡ sameLengths z p c r i e) (eo : o ≡ whole w) where
+module _ (w : Words) (z : Lengths) (o b : Bool) (p c r i e : ℕ) (ez : z ≡ lengthsOf (w .bytes) (w .wide)) (eb : b ≡ sameLengths z p c r i e) (eo : o ≡ wordsInRange w) where
   pub opens : o && b ≡ true → Open ≡ gateOn w p c r i e
-  unfolding gateOn whole
+  unfolding gateOn wordsInRange
   opens t =
       let h : good (w .bytes) && inRange (stateOf w) ≡ true = sym eo ∙ and-left o b t in
       let same : sameLengths (stateOf w .lengths) p c r i e ≡ true = rw (← ez) (sym eb ∙ and-right o b t) in
@@ -51,7 +51,7 @@ module _ (w : Words) (z : Lengths) (o b : Bool) (p c r i e : ℕ) (ez : z ≡ le
 
     -- The lengths are the same, and not all is well: the ranges.
     pub out-of-range : o && b ≡ false → not (z .loaded) ≡ false → not b ≡ false → Shut StateBroken ≡ gateOn w p c r i e
-    unfolding gateOn whole
+    unfolding gateOn wordsInRange
     out-of-range f l t =
         let so : o ≡ inRange (stateOf w) = eo ∙ rw (← eg, not-false g tg) in
         let off : o ≡ false = rw (not-false b t, and-true) at f in
@@ -61,22 +61,22 @@ module _ (w : Words) (z : Lengths) (o b : Bool) (p c r i e : ℕ) (ez : z ≡ le
 abbrev pub bare : Words → Words
 bare w = wordsAt (w .bytes) (w .halves) (w .wide) [] [] (w .prgPages) (w .chrPages)
 
-pub whole-bare : (w : Words) → whole (bare w) ≡ whole w
-unfolding whole inRange
-whole-bare w = refl
+pub range-bare : (w : Words) → wordsInRange (bare w) ≡ wordsInRange w
+unfolding wordsInRange inRange
+range-bare w = refl
 
 pub gate-bare : (w : Words) (p c r i e : ℕ) → gateOn (bare w) p c r i e ≡ gateOn w p c r i e
 unfolding gateOn gateOf inRange
 gate-bare w p c r i e = refl
 
 -- What the tests say where they hold.
-pub whole-good : (w : Words) → whole w ≡ true → good (w .bytes) ≡ true
-unfolding whole
-whole-good w h = and-left (good (w .bytes)) (inRange (stateOf w)) h
+pub range-good : (w : Words) → wordsInRange w ≡ true → good (w .bytes) ≡ true
+unfolding wordsInRange
+range-good w h = and-left (good (w .bytes)) (inRange (stateOf w)) h
 
-pub whole-range : (w : Words) → whole w ≡ true → inRange (stateOf w) ≡ true
-unfolding whole
-whole-range w h = and-right (good (w .bytes)) (inRange (stateOf w)) h
+pub range-ranged : (w : Words) → wordsInRange w ≡ true → inRange (stateOf w) ≡ true
+unfolding wordsInRange
+range-ranged w h = and-right (good (w .bytes)) (inRange (stateOf w)) h
 
 pub open-good : (w : Words) (p c r i e : ℕ) → gateOn w p c r i e ≡ Open → good (w .bytes) ≡ true
 unfolding gateOn

@@ -1,16 +1,19 @@
--- A loop that maps one element of a list after another into an array: so far, and at the end.
+-- Loops over a list, so far and at the end: one that maps its elements into an array, one that tests them.
 use Prim.Native.Nat.{ℕ, zero, suc, _+_, _<_, _≤_}
-use mathlib.Core.Bool.{Bool, _&&_}
+use mathlib.Core.Bool.{Bool, true, false, _&&_}
 use mathlib.Core.List.{List, [], _∷_, _++_, map}
 use mathlib.Core.Path.{_≡_, refl, sym, ap, _∙_}
 use native.Mathlib.Numerals.{add-one}
 use native.Mathlib.Omega.{arith}
+use borrow.Author.Tests.{lt-ltb, ltb-true, ltb-false}
+use lib.Dec.{ltb}
 use lib.ListN.{length, take, getD, set, length-set, length-map, List·getD-map}
 use lib.Seq.{take-suc, take-all, take-suc-set}
 use Rattle.memory.specs.declared.PageWord.{PageWord}
 use Rattle.memory.specs.Tables.{all}
-use Rattle.memory.specs.Words.{word}
+use Rattle.memory.specs.Words.{pick, word}
 use Rattle.memory.proofs.TableLaws.{Tested, test-next, test-last}
+use Rattle.memory.proofs.Tests.{split, and-false}
 
 pub record Mapped {A B : Type 0} (f : A → B) (l : List A) (out : List B) (i : ℕ) : Type 0 where
   pub few : i ≤ length l
@@ -48,3 +51,10 @@ numbers-next f l ok i n b t h e eb =
 
 pub numbers-last : (f : PageWord → Bool) (l : List ℕ) (ok : Bool) (i n : ℕ) → Tested f (map word l) ok i → n ≤ i → length l ≡ n → ok ≡ all f (map word l)
 numbers-last f l ok i n t h e = test-last f (map word l) ok i t (rw (length-map l word) (rw e h))
+
+-- The larger of two passes a test of size where both do.
+pub larger-test : (a b t : ℕ) → ltb (pick (ltb a b) b a) t ≡ ltb a t && ltb b t
+larger-test a b t =
+    split (ltb a b)
+    (λ y. rw y (split (ltb b t) (λ k. rw (k, lt-ltb a t (omega (arith, ltb-true a b y, ltb-true b t k)))) (λ k. rw (k, and-false (ltb a t)))))
+    (λ n. rw n (split (ltb a t) (λ k. rw (k, lt-ltb b t (omega (arith, ltb-false a b n, ltb-true a t k)))) (λ k. rw k)))

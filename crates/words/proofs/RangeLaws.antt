@@ -4,14 +4,14 @@ use mathlib.Core.Bool.{Bool, true, false, not, _&&_}
 use mathlib.Core.List.{List}
 use mathlib.Core.Path.{_≡_, sym, ap, _∙_}
 use native.Mathlib.Omega.{arith}
-use borrow.Author.Tests.{not-false, not-true, lt-ltb, ltb-true, ltb-false}
+use borrow.Author.Tests.{not-false, not-true, lt-ltb}
 use lib.Dec.{leb, ltb}
 use lib.ListN.{length, getD}
 use Rattle.memory.specs.declared.PageWord.{PageWord}
 use Rattle.memory.specs.Tables.{prgShows, prgTableOk, chrTableOk}
 use Rattle.memory.specs.Words.{pick, word, pageOf, prgPlace, prgPlaces}
 use Rattle.memory.proofs.TableLaws.{Tested, test-first, prg-run}
-use Rattle.memory.proofs.Tests.{split, and-false}
+use Rattle.memory.proofs.Tests.{and-false}
 use Rattle.registers.specs.declared.Regs.{Regs}
 use Rattle.registers.specs.Registers.{regsOk}
 use Rattle.scanline.specs.declared.Detector.{Detector}
@@ -22,32 +22,26 @@ use Rattle.split.specs.Control.{splitRanges}
 use Rattle.state.specs.declared.Lengths.{Lengths}
 use Rattle.state.specs.Lengths.{lengthsOk}
 use Rattle.state.specs.Ranges.{inRange}
-use Rattle.words.specs.Gate.{whole}
+use Rattle.words.specs.Gate.{wordsInRange}
 use Rattle.words.specs.Words.{Words, good, lengthsOf, regsOf, splitOf, detectorOf, pagesOf, stateOf}
-use Rattle.words.proofs.MappedLaws.{numbers-next, numbers-last}
+use Rattle.words.proofs.MappedLaws.{numbers-next, numbers-last, larger-test}
 
 pub ranges-of : (w : Words) (z : Lengths) (r : Regs) (x : VSplit) (d : Detector) (t o g v i s p c : Bool)
     → z ≡ lengthsOf (w .bytes) (w .wide) → r ≡ regsOf (w .bytes) (w .halves) → x ≡ splitOf (w .bytes) (w .halves) → d ≡ detectorOf (w .bytes) (w .halves)
     → t ≡ lengthsOk z → not t ≡ false → o ≡ good (w .bytes) → g ≡ regsOk r → v ≡ splitRanges x → i ≡ detectorOk d → s ≡ tilesOk (getD (w .wide) 5 0)
     → p ≡ prgTableOk (z .prg) (z .ram) (pagesOf (w .prgPages)) → c ≡ chrTableOk (z .chr) (z .«chr_writable») (pagesOf (w .chrPages))
-    → o && (i && (g && (v && (leb (getD (w .halves) 4 0) 1023 && (s && (p && c)))))) ≡ whole w
-unfolding whole inRange
+    → o && (i && (g && (v && (leb (getD (w .halves) 4 0) 1023 && (s && (p && c)))))) ≡ wordsInRange w
+unfolding wordsInRange inRange
 ranges-of w z r x d t o g v i s p c ez er ex ed et nt eo eg ev ei es ep ec =
     let taken : lengthsOk (lengthsOf (w .bytes) (w .wide)) ≡ true = ap lengthsOk (sym ez) ∙ (sym et ∙ not-false t nt) in
     rw (taken, eo, ei, ed, eg, er, ev, ex, es, ep, ec, ez)
 
 -- Lengths that load does not take: no state in range.
-pub no-lengths : (w : Words) (z : Lengths) (t : Bool) → z ≡ lengthsOf (w .bytes) (w .wide) → t ≡ lengthsOk z → not t ≡ true → false ≡ whole w
-unfolding whole inRange
+pub no-lengths : (w : Words) (z : Lengths) (t : Bool) → z ≡ lengthsOf (w .bytes) (w .wide) → t ≡ lengthsOk z → not t ≡ true → false ≡ wordsInRange w
+unfolding wordsInRange inRange
 no-lengths w z t ez et nt = rw (← ez, ← et, not-true t nt) (sym (and-false (good (w .bytes))))
 
 -- The furthest place of a PRG table's words: it lies in the run just where every word's does.
-larger-test : (a b t : ℕ) → ltb (pick (ltb a b) b a) t ≡ ltb a t && ltb b t
-larger-test a b t =
-    split (ltb a b)
-    (λ y. rw y (split (ltb b t) (λ k. rw (k, lt-ltb a t (omega (arith, ltb-true a b y, ltb-true b t k)))) (λ k. rw (k, and-false (ltb a t)))))
-    (λ n. rw n (split (ltb a t) (λ k. rw (k, lt-ltb b t (omega (arith, ltb-false a b n, ltb-true a t k)))) (λ k. rw k)))
-
 abbrev pub Furthest : ℕ → ℕ → List ℕ → ℕ → ℕ → Type 0
 Furthest prg ram l top i = Tested (λ (w : PageWord). prgShows prg ram (pageOf w)) (pagesOf l) (ltb top (prgPlaces prg ram)) i
 

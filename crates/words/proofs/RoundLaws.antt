@@ -19,7 +19,7 @@ use Rattle.split.specs.declared.VSplit.{VSplit}
 use Rattle.state.specs.declared.Lengths.{Lengths}
 use Rattle.state.specs.declared.PpuStatus.{PpuStatus}
 use Rattle.state.specs.declared.State.{State}
-use Rattle.words.specs.Promise.{Lent, Promised}
+use Rattle.words.specs.Promise.{Lent, RoundTrips}
 use Rattle.words.specs.Words.{Words, flagTests, good, mirroringNumbered, numberOfMirroring, pagesOf, numbersOf, pageNumber, stateOf, wordsOf, bytesOf, halvesOf, wideOf}
 
 -- A list, element by element.
@@ -136,5 +136,5 @@ words-forth s =
     same-state (lengths-forth s) (regs-forth s) (split-forth s) (irq-forth s) (ppu-forth s) (mirroring-forth (s .screen .mirroring))
     (pages-back (s .«prg_pages»)) (pages-back (s .«chr_pages»))
 
-pub promised : Promised
+pub promised : RoundTrips
 promised = record { back = λ (w : Words) (l : Lent w) g. words-back w (l .bytes) (l .halves) (l .wide) g; forth = words-forth }

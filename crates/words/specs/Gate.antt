@@ -12,8 +12,8 @@ use Rattle.state.specs.Ranges.{inRange}
 use Rattle.words.specs.Words.{Words, good, stateOf}
 
 -- Words that are a state in range.
-unfoldable pub whole : Words → Bool
-whole w = good (w .bytes) && inRange (stateOf w)
+unfoldable pub wordsInRange : Words → Bool
+wordsInRange w = good (w .bytes) && inRange (stateOf w)
 
 unfoldable pub gateOn : Words → ℕ → ℕ → ℕ → ℕ → ℕ → Gate
 gateOn w p c r i e = pick (not (good (w .bytes))) (Shut StateBroken) (gateOf (stateOf w) p c r i e)

@@ -12,6 +12,6 @@ pub record Lent (w : Words) : Type 0 where
   pub halves : length (w .halves) ≡ 5
   pub wide : length (w .wide) ≡ 6
 
-pub record Promised : Type 0 where
+pub record RoundTrips : Type 0 where
   pub back : (w : Words) → Lent w → good (w .bytes) ≡ true → wordsOf (stateOf w) ≡ w
   pub forth : (s : State) → stateOf (wordsOf s) ≡ s

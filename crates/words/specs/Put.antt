@@ -1,4 +1,5 @@
--- Words with one group of the state put anew, or what a call can change of it.
+-- Words with one group of the state put anew, or what a call can change of it: steps inside a call. No promise names them: what they come to is the
+-- words of the state with that group (proofs/PutLaws.antt).
 use Prim.Native.Nat.{ℕ}
 use mathlib.Core.List.{List}
 use lib.ListN.{set}

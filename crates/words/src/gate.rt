@@ -36,7 +36,7 @@ pub fn passed(
 {
     let z = read::lengths_of(bytes, wide);
     let same = same_lengths(z, prg, chr, ram, ciram, exram);
-    let whole = ranges::whole(bytes, halves, wide, prg_pages, chr_pages);
+    let whole = ranges::words_in_range(bytes, halves, wide, prg_pages, chr_pages);
     if whole & same {
         return Gate::Open;
     }

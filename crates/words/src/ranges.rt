@@ -6,7 +6,7 @@ ghost use lib.Dec.{ltb};
 ghost use lib.ListN.{length};
 ghost use Rattle.memory.specs.Tables.{prgTableOk, chrTableOk};
 ghost use Rattle.memory.specs.Words.{pick};
-ghost use Rattle.words.specs.Gate.{whole};
+ghost use Rattle.words.specs.Gate.{wordsInRange};
 ghost use Rattle.words.specs.Words.{pagesOf, wordsAt};
 use crate::read;
 use memory::PageWord;
@@ -59,14 +59,14 @@ pub fn chr_numbers_ok(chr_len: u32, chr_writable: bool, numbers: &[u16; 16]) -> 
 }
 
 // The words are a state in range. The banks are not asked: they take any byte.
-pub fn whole(
+pub fn words_in_range(
     bytes: &[u8; 33],
     halves: &[u16; 5],
     wide: &[u32; 6],
     prg_pages: &[u16; 64],
     chr_pages: &[u16; 16],
 ) -> bool
-    ensures { λ r. ⌜ r ≡ whole (wordsAt (now (bytes .entry)) (now (halves .entry)) (now (wide .entry)) [] [] (now («prg_pages» .entry)) (now («chr_pages» .entry))) ⌝ }
+    ensures { λ r. ⌜ r ≡ wordsInRange (wordsAt (now (bytes .entry)) (now (halves .entry)) (now (wide .entry)) [] [] (now («prg_pages» .entry)) (now («chr_pages» .entry))) ⌝ }
 {
     let z = read::lengths_of(bytes, wide);
     let taken = state::sizes::lengths_ok(z);

@@ -12,34 +12,19 @@ enum-told-2 c = search needs
 enum-known-told : tie.Need-enum-known-told
 enum-known-told c = search needs
 
-number-of-requires : tie.Need-number-of-requires
-number-of-requires c κs = search needs
-
-cast-result : tie.Need-cast-result
-cast-result c = search needs
-
-add-result : tie.Need-add-result
-add-result c = search needs
+plain-requires : tie.Need-plain-requires
+plain-requires c κs = search needs
 
 returns : tie.Need-returns
-returns c = search needs
+returns c = rw (c .enum-told .given .1)
 
 returns-2 : tie.Need-returns-2
-returns-2 c = search needs
+returns-2 c = rw (c .enum-told2 .given .1)
 
 returns-3 : tie.Need-returns-3
-returns-3 c = rw (c .number-of .ensures, c .before .before .told .given .1)
+returns-3 c = rw (c .plain .ensures, c .before .before .told .given .1)
 
 pub interrupt-spec : {M : Type 1} → statement M
 interrupt-spec =
     tie.close
-    (tie.spec
-    enum-told
-    enum-told-2
-    enum-known-told
-    number-of-requires
-    cast-result
-    add-result
-    returns
-    returns-2
-    returns-3)
+    (tie.spec enum-told enum-told-2 enum-known-told plain-requires returns returns-2 returns-3)

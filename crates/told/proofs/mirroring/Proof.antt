@@ -15,20 +15,14 @@ cast-result c = search needs
 enum-known-told-2 : tie.Need-enum-known-told-2
 enum-known-told-2 c = search needs
 
-number-of-requires : tie.Need-number-of-requires
-number-of-requires c κs = search needs
-
-cast-result-2 : tie.Need-cast-result-2
-cast-result-2 c = search needs
-
-add-result : tie.Need-add-result
-add-result c = search needs
+plain-requires : tie.Need-plain-requires
+plain-requires c κs = search needs
 
 returns : tie.Need-returns
-returns c = search needs
+returns c = rw (c .number-of-mirroring .ensures, c .before .before .told .given .1)
 
 returns-2 : tie.Need-returns-2
-returns-2 c = rw (c .number-of .ensures, c .before .before .told2 .given .1)
+returns-2 c = rw (c .plain .ensures, c .before .before .told2 .given .1)
 
 pub mirroring-spec : {M : Type 1} → statement M
 mirroring-spec =
@@ -38,8 +32,6 @@ mirroring-spec =
     number-of-mirroring-requires
     cast-result
     enum-known-told-2
-    number-of-requires
-    cast-result-2
-    add-result
+    plain-requires
     returns
     returns-2)

@@ -1,7 +1,7 @@
 -- Words that are no state in range are refused and stay; else only the detector changes.
 use Rattle.answers.specs.declared.Answer.the-variants.{Nothing}
 use Rattle.words.specs.Words.{wordsAt, stateOf}
-use Rattle.host.proofs.FastLaws.{not-whole-left, whole-sound, whole-ranged, irq-left, clock-refused, clock-done, idle-small}
+use Rattle.host.proofs.FastLaws.{not-in-range-left, in-range-sound, in-range-ranged, irq-left, clock-refused, clock-done, idle-small}
 use borrow.Author.Needs.{needs}
 use Rattle.host.proofs.clocks.mmc5_clock.Statement.{statement}
 use Rattle.host.proofs.clocks.mmc5_clock.Tie as tie
@@ -9,14 +9,14 @@ use Rattle.host.proofs.clocks.mmc5_clock.Tie as tie
 known-requires : tie.Need-known-requires
 known-requires c κs = search needs
 
-whole-requires : tie.Need-whole-requires
-whole-requires c κs = search needs
+words-in-range-requires : tie.Need-words-in-range-requires
+words-in-range-requires c κs = search needs
 
 returns : tie.Need-returns
 returns c =
     let a = c .before .before .before .before .before .before .before .before .before .before .before .args in
     let w = (wordsAt (a .bytes .now) (a .halves .now) (a .wide .now) (a .«prg-banks» .now) (a .«chr-banks» .now) (a .«prg-pages» .now) (a .«chr-pages» .now)) in
-    not-whole-left w _ _ (c .before .before .before .before .before .before .before .known .ensures) (c .before .whole .ensures) (c .if1 .taken) (clock-refused _)
+    not-in-range-left w _ _ (c .before .before .before .before .before .before .before .known .ensures) (c .before .words-in-range .ensures) (c .if1 .taken) (clock-refused _)
 
 detector-of-requires : tie.Need-detector-of-requires
 detector-of-requires c κs = search needs
@@ -25,7 +25,7 @@ clock-requires : tie.Need-clock-requires
 clock-requires c κs =
     let a = c .before .before .before .before .before .before .before .before .before .before .before .before .before .before .args in
     let w = (wordsAt (a .bytes .now) (a .halves .now) (a .wide .now) (a .«prg-banks» .now) (a .«chr-banks» .now) (a .«prg-pages» .now) (a .«chr-pages» .now)) in
-    idle-small (stateOf w) _ (whole-ranged w _ (c .before .before .before .before .whole .ensures) (c .before .before .before .if1 .left)) (c .detector-of .ensures)
+    idle-small (stateOf w) _ (in-range-ranged w _ (c .before .before .before .before .words-in-range .ensures) (c .before .before .before .if1 .left)) (c .detector-of .ensures)
 
 put-detector-requires : tie.Need-put-detector-requires
 put-detector-requires c κs = search needs
@@ -37,8 +37,8 @@ returns-2 : tie.Need-returns-2
 returns-2 c =
     let a = c .before .before .before .before .before .before .before .before .before .before .before .before .before .before .before .before .before .before .before .args in
     let w = (wordsAt (a .bytes .now) (a .halves .now) (a .wide .now) (a .«prg-banks» .now) (a .«chr-banks» .now) (a .«prg-pages» .now) (a .«chr-pages» .now)) in
-    irq-left w _ Nothing _ _ _ _ (whole-sound w _ (c .before .before .before .before .before .before .before .before .before .before .before .before .before .before .before .known .ensures) (c .before .before .before .before .before .before .before .before .before .whole .ensures) (c .before .before .before .before .before .before .before .before .if1 .left))
-    (clock-done _ _ _ (whole-ranged w _ (c .before .before .before .before .before .before .before .before .before .whole .ensures) (c .before .before .before .before .before .before .before .before .if1 .left)) (c .before .before .before .before .before .detector-of .ensures) (c .before .before .before .before .clock .ensures))
+    irq-left w _ Nothing _ _ _ _ (in-range-sound w _ (c .before .before .before .before .before .before .before .before .before .before .before .before .before .before .before .known .ensures) (c .before .before .before .before .before .before .before .before .before .words-in-range .ensures) (c .before .before .before .before .before .before .before .before .if1 .left))
+    (clock-done _ _ _ (in-range-ranged w _ (c .before .before .before .before .before .before .before .before .before .words-in-range .ensures) (c .before .before .before .before .before .before .before .before .if1 .left)) (c .before .before .before .before .before .detector-of .ensures) (c .before .before .before .before .clock .ensures))
     (c .before .put-detector .ensures .0) (c .before .put-detector .ensures .1) (c .with-interrupt .ensures)
 
 pub mmc5-clock-spec : {M : Type 1} → statement M
@@ -46,7 +46,7 @@ mmc5-clock-spec =
     tie.close
     (tie.spec
     known-requires
-    whole-requires
+    words-in-range-requires
     returns
     detector-of-requires
     clock-requires

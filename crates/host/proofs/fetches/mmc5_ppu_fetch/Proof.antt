@@ -3,9 +3,10 @@ use mathlib.Core.Bool.{true, false}
 use mathlib.Core.Path.{sym, _∙_}
 use Rattle.memory.specs.Bytes.{memOf}
 use Rattle.arms.proofs.Made.{fetch-refused}
+use Rattle.promises.proofs.Promised.{who-is-refused}
 use Rattle.words.specs.Words.{wordsAt, stateOf}
 use Rattle.host.proofs.FastLaws.{shut-left, refused-left, open-sound, opened}
-use Rattle.host.proofs.FetchLaws.{fetch-shut, not-refused, detector-ranged, tiles-ranged, flags-kept, split-kept, counted-done, counted-left, other-left}
+use Rattle.host.proofs.FetchLaws.{not-refused, detector-ranged, tiles-ranged, flags-kept, split-kept, counted-done, counted-left, other-left}
 use borrow.Author.Needs.{needs}
 use Rattle.host.proofs.fetches.mmc5_ppu_fetch.Statement.{statement}
 use Rattle.host.proofs.fetches.mmc5_ppu_fetch.Tie as tie
@@ -27,7 +28,7 @@ returns c =
     let a = c .before .before .before .before .before .before .before .before .before .before .before .before .before .before .before .before .before .before .before .args in
     let w = wordsAt (a .bytes .now) (a .halves .now) (a .wide .now) (a .«prg-banks» .now) (a .«chr-banks» .now) (a .«prg-pages» .now) (a .«chr-pages» .now) in
     let m = memOf (a .prg .now) (a .chr .now) (a .ram .now) (a .ciram .now) (a .exram .now) in
-    shut-left w m _ _ _ _ (c .before .before .before .before .before .before .before .before .before .before .known .ensures) (c .before .before .before .before .passed .ensures) (c .before .before .gate .given .1) (fetch-shut _ _ _ _) (c .plain .ensures)
+    shut-left w m _ _ _ _ (c .before .before .before .before .before .before .before .before .before .before .known .ensures) (c .before .before .before .before .passed .ensures) (c .before .before .gate .given .1) (who-is-refused .fetch-shut _ _ _ _) (c .plain .ensures)
 
 enum-told : tie.Need-enum-told
 enum-told c = search needs
@@ -73,8 +74,8 @@ count-fetch-requires c κs =
       ),
     )
 
-word-at-requires : tie.Need-word-at-requires
-word-at-requires c κs = search needs
+chr-word-requires : tie.Need-chr-word-requires
+chr-word-requires c κs = search needs
 
 counted-answer-requires : tie.Need-counted-answer-requires
 counted-answer-requires c κs = search needs
@@ -98,7 +99,7 @@ returns-3 c =
     let m = memOf (a .prg .now) (a .chr .now) (a .ram .now) (a .ciram .now) (a .exram .now) in
     counted-left w _ _ _ _ _ _ _ _ _ _ _ _ (open-sound w m _ (c .before .before .before .before .before .before .before .before .before .before .before .before .before .before .before .before .before .before .before .before .before .before .before .before .before .before .before .before .before .before .before .before .before .before .before .before .before .before .before .before .before .before .known .ensures) (c .before .before .before .before .before .before .before .before .before .before .before .before .before .before .before .before .before .before .before .before .before .before .before .before .before .before .before .before .before .before .before .before .before .before .before .before .passed .ensures) (c .before .before .before .before .before .before .before .before .before .before .before .before .before .before .before .before .before .before .before .before .before .before .before .before .before .before .before .before .before .before .before .before .before .before .enum-told .given .1)) (flags-kept _ _ _ _ _ _ (c .before .before .before .before .before .before .before .before .before .before .before .before .before .before .before .before .before .before .before .before .before .before .before .before .before .before .before .status-of .ensures) (c .before .before .before .before .before .before .before .before .before .before .before .before .before .before .before .before .count-fetch .ensures .1 .0)) (split-kept _ _ _ _ _ _ _ (c .before .before .before .before .before .before .before .before .before .before .before .before .before .before .before .before .before .before .before .split-of .ensures) (c .before .before .before .before .before .before .before .before .before .before .before .before .before .before .before .before .count-fetch .ensures .1 .1))
     (counted-done (stateOf w) m _ _ _ _ _ (opened w m _ (c .before .before .before .before .before .before .before .before .before .before .before .before .before .before .before .before .before .before .before .before .before .before .before .before .before .before .before .before .before .before .before .before .before .before .before .before .passed .ensures) (c .before .before .before .before .before .before .before .before .before .before .before .before .before .before .before .before .before .before .before .before .before .before .before .before .before .before .before .before .before .before .before .before .before .before .enum-told .given .1)) (not-refused (stateOf w) _ _ false _ _ (c .before .before .before .before .before .before .before .before .before .before .before .before .before .before .before .before .before .before .before .before .before .before .before .before .before .before .before .before .before .before .before .detector-of .ensures) (c .before .before .before .before .before .before .before .before .before .before .before .before .before .before .before .before .before .before .before .before .before .before .before .before .before .before .before .status-of .ensures) (c .before .before .before .before .before .before .before .before .before .before .before .before .before .before .before .before .before .before .before .before .before .before .before .before .before .before .counter-refused .ensures) (c .before .before .before .before .before .before .before .before .before .before .before .before .before .before .before .before .before .before .before .before .before .before .before .before .before .if1 .left)) (c .before .before .before .before .before .before .before .before .before .before .before .before .before .before .before .before .before .before .before .before .before .before .regs-of .ensures) (c .before .before .before .before .before .before .before .before .before .before .before .before .before .before .before .before .before .before .before .before .before .before .before .before .before .before .before .before .before .before .before .detector-of .ensures) (c .before .before .before .before .before .before .before .before .before .before .before .before .before .before .before .before .before .before .before .before .before .before .before .before .before .before .before .status-of .ensures) (c .before .before .before .before .before .before .before .before .before .before .before .before .before .before .before .before .before .before .before .split-of .ensures) _ _ _ _ _ (sym (c .before .before .before .before .before .before .before .before .before .before .before .before .before .before .before .before .before .before .counted .ensures) ∙ c .before .before .before .before .before .before .before .before .before .before .before .before .before .before .before .before .before .if2 .taken)
-    (c .before .before .before .before .before .before .before .before .before .before .before .before .before .before .before .before .count-fetch .ensures .0) (c .before .before .before .before .before .before .before .before .before .before .before .before .before .before .before .before .count-fetch .ensures .1 .0) (c .before .before .before .before .before .before .before .before .before .before .before .before .before .before .before .before .count-fetch .ensures .1 .1) (c .before .before .before .before .before .before .before .before .before .before .before .word-at .ensures) (c .before .before .before .before .before .before .before .before .before .before .counted-answer .ensures))
+    (c .before .before .before .before .before .before .before .before .before .before .before .before .before .before .before .before .count-fetch .ensures .0) (c .before .before .before .before .before .before .before .before .before .before .before .before .before .before .before .before .count-fetch .ensures .1 .0) (c .before .before .before .before .before .before .before .before .before .before .before .before .before .before .before .before .count-fetch .ensures .1 .1) (c .before .before .before .before .before .before .before .before .before .before .before .chr-word .ensures) (c .before .before .before .before .before .before .before .before .before .before .counted-answer .ensures))
     (c .before .before .before .before .before .before .before .put-detector .ensures .0) (c .before .before .before .before .before .before .before .put-detector .ensures .1)
     (c .before .before .before .before .put-tiles .ensures .0) (c .before .before .before .before .put-tiles .ensures .1)
     (c .before .put-region .ensures .0) (c .before .put-region .ensures .1) (c .with-interrupt .ensures)
@@ -109,8 +110,8 @@ chosen-at-requires c κs = search needs
 map-on-change-requires : tie.Need-map-on-change-requires
 map-on-change-requires c κs = search needs
 
-word-at-requires-2 : tie.Need-word-at-requires-2
-word-at-requires-2 c κs = search needs
+chr-word-requires-2 : tie.Need-chr-word-requires-2
+chr-word-requires-2 c κs = search needs
 
 other-answer-requires : tie.Need-other-answer-requires
 other-answer-requires c κs = search needs
@@ -127,7 +128,7 @@ returns-4 c =
     let w = wordsAt (a .bytes .now) (a .halves .now) (a .wide .now) (a .«prg-banks» .now) (a .«chr-banks» .now) (a .«prg-pages» .now) (a .«chr-pages» .now) in
     let m = memOf (a .prg .now) (a .chr .now) (a .ram .now) (a .ciram .now) (a .exram .now) in
     other-left w m _ _ _ _ _ _ _ _ _ _ _ (open-sound w m _ (c .before .before .before .before .before .before .before .before .before .before .before .before .before .before .before .before .before .before .before .before .before .before .before .before .before .before .before .before .before .before .before .before .before .before .before .before .before .before .known .ensures) (c .before .before .before .before .before .before .before .before .before .before .before .before .before .before .before .before .before .before .before .before .before .before .before .before .before .before .before .before .before .before .before .before .passed .ensures) (c .before .before .before .before .before .before .before .before .before .before .before .before .before .before .before .before .before .before .before .before .before .before .before .before .before .before .before .before .before .before .enum-told .given .1)) (opened w m _ (c .before .before .before .before .before .before .before .before .before .before .before .before .before .before .before .before .before .before .before .before .before .before .before .before .before .before .before .before .before .before .before .before .passed .ensures) (c .before .before .before .before .before .before .before .before .before .before .before .before .before .before .before .before .before .before .before .before .before .before .before .before .before .before .before .before .before .before .enum-told .given .1)) (not-refused (stateOf w) _ _ false _ _ (c .before .before .before .before .before .before .before .before .before .before .before .before .before .before .before .before .before .before .before .before .before .before .before .before .before .before .before .detector-of .ensures) (c .before .before .before .before .before .before .before .before .before .before .before .before .before .before .before .before .before .before .before .before .before .before .before .status-of .ensures) (c .before .before .before .before .before .before .before .before .before .before .before .before .before .before .before .before .before .before .before .before .before .before .counter-refused .ensures) (c .before .before .before .before .before .before .before .before .before .before .before .before .before .before .before .before .before .before .before .before .before .if1 .left)) (sym (c .before .before .before .before .before .before .before .before .before .before .before .before .before .before .counted .ensures) ∙ c .before .before .before .before .before .before .before .before .before .before .before .before .before .if2 .left)
-    (c .before .before .before .before .before .before .before .before .before .before .before .before .before .before .before .before .before .before .regs-of .ensures) (c .before .before .before .before .before .before .before .before .before .before .before .before .before .before .before .before .before .before .before .before .before .before .before .before .before .before .before .detector-of .ensures) (c .before .before .before .before .before .before .before .before .before .before .before .before .before .before .before .before .before .before .before .before .before .before .before .status-of .ensures) (c .before .before .before .before .before .before .before .before .before .before .before .before .before .before .before .split-of .ensures) (c .before .before .before .before .before .before .before .before .before .before .before .before .chosen-at .ensures) (c .before .before .before .before .before .before .map-on-change .ensures) (c .before .before .before .before .word-at2 .ensures) (c .before .before .before .other-answer .ensures)
+    (c .before .before .before .before .before .before .before .before .before .before .before .before .before .before .before .before .before .before .regs-of .ensures) (c .before .before .before .before .before .before .before .before .before .before .before .before .before .before .before .before .before .before .before .before .before .before .before .before .before .before .before .detector-of .ensures) (c .before .before .before .before .before .before .before .before .before .before .before .before .before .before .before .before .before .before .before .before .before .before .before .status-of .ensures) (c .before .before .before .before .before .before .before .before .before .before .before .before .before .before .before .split-of .ensures) (c .before .before .before .before .before .before .before .before .before .before .before .before .chosen-at .ensures) (c .before .before .before .before .before .before .map-on-change .ensures) (c .before .before .before .before .chr-word2 .ensures) (c .before .before .before .other-answer .ensures)
     (c .before .put-set .ensures) (c .with-interrupt2 .ensures)
 
 pub mmc5-ppu-fetch-spec : {M : Type 1} → statement M
@@ -149,7 +150,7 @@ mmc5-ppu-fetch-spec =
     split-of-requires
     counted-requires
     count-fetch-requires
-    word-at-requires
+    chr-word-requires
     counted-answer-requires
     put-detector-requires
     put-tiles-requires
@@ -158,7 +159,7 @@ mmc5-ppu-fetch-spec =
     returns-3
     chosen-at-requires
     map-on-change-requires
-    word-at-requires-2
+    chr-word-requires-2
     other-answer-requires
     put-set-requires
     with-interrupt-requires-2

@@ -1,14 +1,11 @@
--- Words that are no state give nothing; else the view's bytes are copied.
-use Rattle.host_looks.proofs.CopyLaws.{page-stays, page-copied}
+-- The view's bytes, copied if the words are a state.
+use Rattle.host_looks.proofs.LookLaws.{page-copied}
 use borrow.Author.Needs.{needs}
 use Rattle.host_looks.proofs.pages.mmc5_cpu_page.Statement.{statement}
 use Rattle.host_looks.proofs.pages.mmc5_cpu_page.Tie as tie
 
 is-good-requires : tie.Need-is-good-requires
 is-good-requires c κs = search needs
-
-returns : tie.Need-returns
-returns c = page-stays _ _ _ _ (c .before .is-good .ensures) (c .if1 .taken)
 
 state-of-requires : tie.Need-state-of-requires
 state-of-requires c κs = search needs
@@ -22,17 +19,16 @@ copy-requires c κs = search needs
 same-length : tie.Need-same-length
 same-length c = search needs
 
-returns-2 : tie.Need-returns-2
-returns-2 c = page-copied _ _ _ _ _ _ _ _ (c .before .before .before .before .before .before .before .is-good .ensures) (c .before .before .before .before .before .before .if1 .left) (c .before .before .before .before .before .state-of .ensures) (c .before .before .before .before .cpu-view .ensures) (c .before .before .copy .ensures)
+returns : tie.Need-returns
+returns c = page-copied _ _ _ _ _ _ _ _ (c .before .before .before .before .before .before .is-good .ensures) (c .before .before .before .before .before .state-of .ensures) (c .before .before .before .before .cpu-view .ensures) (c .before .before .copy .ensures)
 
 pub mmc5-cpu-page-spec : {M : Type 1} → statement M
 mmc5-cpu-page-spec =
     tie.close
     (tie.spec
     is-good-requires
-    returns
     state-of-requires
     cpu-view-requires
     copy-requires
     same-length
-    returns-2)
+    returns)

@@ -6,8 +6,8 @@ use Rattle.state.proofs.SizeLaws.{lengths-say}
 use Rattle.words.specs.Words.{wordsAt}
 use Rattle.words.proofs.RangeLaws.{ranges-of, no-lengths}
 use borrow.Author.Needs.{needs}
-use Rattle.words.proofs.ranges.whole.Statement.{statement}
-use Rattle.words.proofs.ranges.whole.Tie as tie
+use Rattle.words.proofs.ranges.words_in_range.Statement.{statement}
+use Rattle.words.proofs.ranges.words_in_range.Tie as tie
 
 lengths-of-requires : tie.Need-lengths-of-requires
 lengths-of-requires c κs = search needs
@@ -63,8 +63,8 @@ element-copy-out-result c = search needs
 returns-2 : tie.Need-returns-2
 returns-2 c = ranges-of (wordsAt (c .before .before .before .before .before .before .before .before .before .before .before .before .before .before .before .before .before .before .before .args .bytes .now) (c .before .before .before .before .before .before .before .before .before .before .before .before .before .before .before .before .before .before .before .args .halves .now) (c .before .before .before .before .before .before .before .before .before .before .before .before .before .before .before .before .before .before .before .args .wide .now) [] [] (c .before .before .before .before .before .before .before .before .before .before .before .before .before .before .before .before .before .before .before .args .«prg-pages» .now) (c .before .before .before .before .before .before .before .before .before .before .before .before .before .before .before .before .before .before .before .args .«chr-pages» .now)) _ _ _ _ _ _ _ _ _ _ _ _ (c .before .before .before .before .before .before .before .before .before .before .before .before .before .before .before .before .before .before .lengths-of .ensures) (c .before .before .before .before .before .before .before .before .before .before .regs-of .ensures) (c .before .before .before .before .before .before .before .before .split-of .ensures) (c .before .before .before .before .before .before .detector-of .ensures) (c .before .before .before .before .before .before .before .before .before .before .before .before .before .before .before .before .before .lengths-ok .ensures) (c .before .before .before .before .before .before .before .before .before .before .before .before .before .before .before .before .if1 .left) (c .before .before .before .before .before .before .before .before .before .before .before .is-good .ensures) (c .before .before .before .before .before .before .before .before .before .ranges-ok .ensures) (c .before .before .before .before .before .before .before .ranges-ok2 .ensures) (c .before .before .before .before .before .ranges-ok3 .ensures) (c .before .before .before .tiles-ok .ensures) (c .before .before .prg-numbers-ok .ensures) (c .before .chr-numbers-ok .ensures)
 
-pub whole-spec : {M : Type 1} → statement M
-whole-spec =
+pub words-in-range-spec : {M : Type 1} → statement M
+words-in-range-spec =
     tie.close
     (tie.spec
     lengths-of-requires
