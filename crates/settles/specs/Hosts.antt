@@ -3,9 +3,9 @@
 -- Assumes nothing.
 use denote.Ref.{now}
 use Rattle.words.specs.Words.{Words as AllWords, wordsAt}
-use Rattle.host.specs.Hosted.{leftOf, hostedOf}
+use Rattle.host.specs.Hosted.{leftWords, leftMemory}
 use Rattle.host_looks.specs.Pages.{copiedOf}
-use Rattle.host_replay.specs.Replays.{hostedOf as replayedOf}
+use Rattle.host_replay.specs.Replays.{leftReplay}
 use Rattle.words.proofs.gate.passed.Reads as words-passed
 use Rattle.words.proofs.groups.known.Reads as words-known
 use Rattle.words.proofs.groups.put_detector.Reads as words-put-detector
@@ -16,7 +16,7 @@ use Rattle.words.proofs.put.number_of_mirroring.Reads as words-number-of-mirror
 use Rattle.words.proofs.put.put_state.Reads as words-put-state
 use Rattle.words.proofs.ranges.chr_numbers_ok.Reads as words-chr-numbers-ok
 use Rattle.words.proofs.ranges.prg_numbers_ok.Reads as words-prg-numbers-ok
-use Rattle.words.proofs.ranges.whole.Reads as words-whole
+use Rattle.words.proofs.ranges.words_in_range.Reads as words-in-range
 use Rattle.words.proofs.read.detector_of.Reads as words-detector-of
 use Rattle.words.proofs.read.is_good.Reads as words-is-good
 use Rattle.words.proofs.read.lengths_of.Reads as words-lengths-of
@@ -27,8 +27,11 @@ use Rattle.words.proofs.read.state_of.Reads as words-state-of
 use Rattle.words.proofs.read.status_of.Reads as words-status-of
 use Rattle.words.proofs.tables.chr_numbers.Reads as words-chr-numbers
 use Rattle.words.proofs.tables.chr_table.Reads as words-chr-table
+use Rattle.words.proofs.tables.chr_word.Reads as words-chr-word
 use Rattle.words.proofs.tables.prg_numbers.Reads as words-prg-numbers
 use Rattle.words.proofs.tables.prg_table.Reads as words-prg-table
+use Rattle.words.proofs.tables.prg_word.Reads as words-prg-word
+use Rattle.told.proofs.if_good.Reads as told-if-good
 use Rattle.told.proofs.interrupt.Reads as told-interrupt
 use Rattle.told.proofs.mirroring.Reads as told-mirroring
 use Rattle.told.proofs.plain.Reads as told-plain
@@ -36,11 +39,9 @@ use Rattle.told.proofs.with_interrupt.Reads as told-with-interrupt
 use Rattle.host.proofs.clocks.mmc5_clock.Reads as host-clock
 use Rattle.host.proofs.cpu_side.mmc5_cpu_write.Reads as host-cpu-write
 use Rattle.host.proofs.fetches.mmc5_ppu_fetch.Reads as host-ppu-fetch
-use Rattle.host.proofs.fetches.word_at.Reads as host-fetches-word-at
 use Rattle.host.proofs.loads.mmc5_load.Reads as host-load
 use Rattle.host.proofs.ppu_side.mmc5_ppu_write.Reads as host-ppu-write
 use Rattle.host.proofs.reads.mmc5_cpu_read.Reads as host-cpu-read
-use Rattle.host.proofs.reads.word_at.Reads as host-reads-word-at
 use Rattle.host.proofs.whole.mmc5_ppu_register.Reads as host-ppu-register
 use Rattle.host.proofs.whole.mmc5_reset.Reads as host-reset
 use Rattle.host_looks.proofs.pages.mmc5_cpu_entry.Reads as host-looks-cpu-entry
@@ -73,7 +74,7 @@ pub record Words : Type 0 where
   pub put-state : Settles words-put-state.Learnt (λ κ a r e. wordsLeft (e .1))
   pub chr-numbers-ok : Result words-chr-numbers-ok.Learnt
   pub prg-numbers-ok : Result words-prg-numbers-ok.Learnt
-  pub whole : Result words-whole.Learnt
+  pub in-range : Result words-in-range.Learnt
   pub detector-of : Result words-detector-of.Learnt
   pub is-good : Result words-is-good.Learnt
   pub lengths-of : Result words-lengths-of.Learnt
@@ -84,26 +85,27 @@ pub record Words : Type 0 where
   pub status-of : Result words-status-of.Learnt
   pub chr-numbers : Result words-chr-numbers.Learnt
   pub chr-table : Result words-chr-table.Learnt
+  pub chr-word : Result words-chr-word.Learnt
   pub prg-numbers : Result words-prg-numbers.Learnt
   pub prg-table : Result words-prg-table.Learnt
+  pub prg-word : Result words-prg-word.Learnt
 
 pub record Told : Type 0 where
+  pub if-good : Result told-if-good.Learnt
   pub interrupt : Result told-interrupt.Learnt
   pub mirroring : Result told-mirroring.Learnt
   pub plain : Result told-plain.Learnt
   pub with-interrupt : Result told-with-interrupt.Learnt
 
 pub record Host : Type 0 where
-  pub clock : Settles host-clock.Learnt (λ κ a r e. leftOf r (wordsLeft e))
-  pub cpu-write : Settles host-cpu-write.Learnt (λ κ a r e. hostedOf r (wordsLeft e) (memLeft (now (behind a .0)) (behind e .1)))
-  pub ppu-fetch : Settles host-ppu-fetch.Learnt (λ κ a r e. leftOf r (wordsLeft e))
-  pub fetches-word-at : Result host-fetches-word-at.Learnt
-  pub load : Settles host-load.Learnt (λ κ a r e. leftOf r (wordsLeft e))
-  pub ppu-write : Settles host-ppu-write.Learnt (λ κ a r e. hostedOf r (wordsLeft e) (memLeft (now (behind a .0)) (behind e .1)))
-  pub cpu-read : Settles host-cpu-read.Learnt (λ κ a r e. leftOf r (wordsLeft e))
-  pub reads-word-at : Result host-reads-word-at.Learnt
-  pub ppu-register : Settles host-ppu-register.Learnt (λ κ a r e. leftOf r (wordsLeft e))
-  pub reset : Settles host-reset.Learnt (λ κ a r e. leftOf r (wordsLeft e))
+  pub clock : Settles host-clock.Learnt (λ κ a r e. leftWords r (wordsLeft e))
+  pub cpu-write : Settles host-cpu-write.Learnt (λ κ a r e. leftMemory r (wordsLeft e) (memLeft (now (behind a .0)) (behind e .1)))
+  pub ppu-fetch : Settles host-ppu-fetch.Learnt (λ κ a r e. leftWords r (wordsLeft e))
+  pub load : Settles host-load.Learnt (λ κ a r e. leftWords r (wordsLeft e))
+  pub ppu-write : Settles host-ppu-write.Learnt (λ κ a r e. leftMemory r (wordsLeft e) (memLeft (now (behind a .0)) (behind e .1)))
+  pub cpu-read : Settles host-cpu-read.Learnt (λ κ a r e. leftWords r (wordsLeft e))
+  pub ppu-register : Settles host-ppu-register.Learnt (λ κ a r e. leftWords r (wordsLeft e))
+  pub reset : Settles host-reset.Learnt (λ κ a r e. leftWords r (wordsLeft e))
 
 pub record HostLooks : Type 0 where
   pub cpu-entry : Result host-looks-cpu-entry.Learnt
@@ -117,4 +119,4 @@ pub record HostLooks : Type 0 where
   pub mirroring : Result host-looks-mirroring.Learnt
 
 pub record HostReplay : Type 0 where
-  pub replay : Settles host-replay-replay.Learnt (λ κ a r e. replayedOf r (wordsLeft e) (memLeft (now (behind a .0)) (behind e .1)) (now (behind e .1 .1 .1 .1 .1 .1 .0)))
+  pub replay : Settles host-replay-replay.Learnt (λ κ a r e. leftReplay r (wordsLeft e) (memLeft (now (behind a .0)) (behind e .1)) (now (behind e .1 .1 .1 .1 .1 .1 .0)))
