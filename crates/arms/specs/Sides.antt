@@ -1,4 +1,4 @@
--- For the loop of replay and for the host: what a write leaves at page 23, and a fetch of the CHR set, over all addresses.
+-- Steps inside a call, over all addresses, for the loop of replay and for the host; no promise names them.
 use Prim.Native.Nat.{ℕ}
 use mathlib.Core.Bool.{Bool}
 use lib.Dec.{eqb, ltb}
@@ -8,10 +8,11 @@ use Rattle.banks.specs.Prg.{exramPage}
 use Rattle.cpu.specs.Chosen.{chosen}
 use Rattle.state.specs.declared.PpuStatus.{PpuStatus}
 
--- ExRAM's page in the PRG table after a write.
+-- The word of page 23 of the PRG table ($5C00) after a CPU write; `mode` is the ExRAM mode after it. Module 3: "CPU read in 2, 3; page write only
+-- in 2".
 unfoldable pub exramWord : PageWord → ℕ → ℕ → PageWord
 exramWord w mode a = pick (eqb a 0x5104) (exramPage mode) w
 
--- The CHR set after a fetch that does not count: a pattern fetch chooses.
+-- The PPU status after a fetch that does not count. Module 5: "A pattern fetch chooses first".
 unfoldable pub chosenAt : PpuStatus → Bool → ℕ → PpuStatus
 chosenAt p framed a = pick (ltb a 0x2000) (chosen p framed) p

@@ -1,4 +1,5 @@
--- What a record of a trace asks of the board: one definition for the seven kinds of call. Assumes nothing.
+-- What a record of a trace asks of the board: one definition for the seven kinds of call. Clock, PPU register write and reset look at the state
+-- alone: their buffers' lengths are not asked here (`replayed` of crate `player` asks them before any record). Assumes nothing.
 use Rattle.memory.specs.Bytes.{Mem}
 use Rattle.state.specs.declared.State.{State}
 use Rattle.board.specs.CpuSide.{cpuRead, cpuWrite}

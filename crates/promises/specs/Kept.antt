@@ -1,6 +1,6 @@
--- Demand 1, of accepted calls: from a state in range with buffers of the recorded lengths, every call leaves a state in range and buffers of
--- the recorded lengths: the gate that every call asks first (`gateMem`, crate `state`, specs/Gate.antt; Shut with 4 or 5, else Open) stays open.
--- So a board that serves its first call and then refuses all is shut out. For load: an accepted one is such a start.
+-- 01, "STATE ranges", kept: from a state in range with buffers of the recorded lengths, every call leaves a state in range and buffers of the
+-- recorded lengths: the gate that every call asks first (`gateMem`, crate `state`, specs/Gate.antt; Shut with 4 or 5, else Open) stays open.
+-- With `WhoIsRefused` this shuts out a board that serves its first call and then refuses all. For load: an accepted one is such a start.
 use Prim.Native.Nat.{ℕ}
 use mathlib.Core.Bool.{Bool, true}
 use mathlib.Core.Path.{_≡_}

@@ -8,7 +8,7 @@ before zero n text = text
 before (suc most) zero text = text
 before (suc most) (suc n) text = before most (suc n / 10) ((48 + suc n % 10) ∷ text)
 
--- The last digit, also of 0, and before it the digits of the tens. No number has more digits than it counts.
+-- The last digit, also of 0, and before it the digits of the tens: of n there are at most n.
 abbrev pub digits : ℕ → List ℕ
 digits n = before n (n / 10) ((48 + n % 10) ∷ [])
 

@@ -75,5 +75,5 @@ pub record Reading : Type 0 where
   -- A call's record that stands at a place is read as that call, and no other bytes are: "shortest form only".
   pub read : (trace : List ℕ) (at : ℕ) (call : Call) (next : ℕ) → Stands trace at call next → recordAt trace at ≡ Record call next
   pub written : (trace : List ℕ) (at : ℕ) (call : Call) (next : ℕ) → Bytes trace → recordAt trace at ≡ Record call next → Stands trace at call next
-  -- What is read at a place depends on the bytes from there on.
+  -- What is read at a place depends on the bytes from there on alone.
   pub ahead : (trace other : List ℕ) (at : ℕ) → drop at trace ≡ drop at other → recordAt trace at ≡ recordAt other at
