@@ -54,14 +54,14 @@ use Rattle.host_looks.proofs.peeks.mmc5_sprite_peek.Reads as host-looks-sprite-
 use Rattle.host_looks.proofs.whole.mmc5_interrupt.Reads as host-looks-interrupt
 use Rattle.host_looks.proofs.whole.mmc5_mirroring.Reads as host-looks-mirroring
 use Rattle.host_replay.proofs.mmc5_replay.Reads as host-replay-replay
-use Rattle.settles.specs.Settled.{Result, Settles, beside, Lent, memLeft}
+use Rattle.settles.specs.Settled.{Result, Settles, beside, BufferThen, memLeft}
 
 -- A call's first seven parameters are the arrays of words: a look at them, and what comes behind them.
-abbrev pub wordsLeft : {X : Type 0} → Lent (Lent (Lent (Lent (Lent (Lent (Lent X)))))) → AllWords
+abbrev pub wordsLeft : {X : Type 0} → BufferThen (BufferThen (BufferThen (BufferThen (BufferThen (BufferThen (BufferThen X)))))) → AllWords
 wordsLeft e = wordsAt (now (e .0)) (now (e .1 .0)) (now (e .1 .1 .0)) (now (e .1 .1 .1 .0)) (now (e .1 .1 .1 .1 .0)) (now (e .1 .1 .1 .1 .1 .0)) (now (e .1 .1 .1 .1 .1 .1 .0))
 
-abbrev pub behind : {X : Type 0} → Lent (Lent (Lent (Lent (Lent (Lent (Lent X)))))) → X
-behind e = e .1 .1 .1 .1 .1 .1 .1
+abbrev pub behindWords : {X : Type 0} → BufferThen (BufferThen (BufferThen (BufferThen (BufferThen (BufferThen (BufferThen X)))))) → X
+behindWords e = e .1 .1 .1 .1 .1 .1 .1
 
 pub record Words : Type 0 where
   pub passed : Result words-passed.Learnt
@@ -99,19 +99,19 @@ pub record Told : Type 0 where
 
 pub record Host : Type 0 where
   pub clock : Settles host-clock.Learnt (λ κ a r e. leftWords r (wordsLeft e))
-  pub cpu-write : Settles host-cpu-write.Learnt (λ κ a r e. leftMemory r (wordsLeft e) (memLeft (now (behind a .0)) (behind e .1)))
+  pub cpu-write : Settles host-cpu-write.Learnt (λ κ a r e. leftMemory r (wordsLeft e) (memLeft (now (behindWords a .0)) (behindWords e .1)))
   pub ppu-fetch : Settles host-ppu-fetch.Learnt (λ κ a r e. leftWords r (wordsLeft e))
   pub load : Settles host-load.Learnt (λ κ a r e. leftWords r (wordsLeft e))
-  pub ppu-write : Settles host-ppu-write.Learnt (λ κ a r e. leftMemory r (wordsLeft e) (memLeft (now (behind a .0)) (behind e .1)))
+  pub ppu-write : Settles host-ppu-write.Learnt (λ κ a r e. leftMemory r (wordsLeft e) (memLeft (now (behindWords a .0)) (behindWords e .1)))
   pub cpu-read : Settles host-cpu-read.Learnt (λ κ a r e. leftWords r (wordsLeft e))
   pub ppu-register : Settles host-ppu-register.Learnt (λ κ a r e. leftWords r (wordsLeft e))
   pub reset : Settles host-reset.Learnt (λ κ a r e. leftWords r (wordsLeft e))
 
 pub record HostLooks : Type 0 where
   pub cpu-entry : Result host-looks-cpu-entry.Learnt
-  pub cpu-page : Settles host-looks-cpu-page.Learnt (λ κ a r e. copiedOf r (now (behind e .1 .1 .1 .1 .1 .1 .0)))
+  pub cpu-page : Settles host-looks-cpu-page.Learnt (λ κ a r e. copiedOf r (now (behindWords e .1 .1 .1 .1 .1 .1 .0)))
   pub ppu-entry : Result host-looks-ppu-entry.Learnt
-  pub ppu-page : Settles host-looks-ppu-page.Learnt (λ κ a r e. copiedOf r (now (behind e .1 .1 .1 .1 .1 .1 .0)))
+  pub ppu-page : Settles host-looks-ppu-page.Learnt (λ κ a r e. copiedOf r (now (behindWords e .1 .1 .1 .1 .1 .1 .0)))
   pub cpu-peek : Result host-looks-cpu-peek.Learnt
   pub ppu-peek : Result host-looks-ppu-peek.Learnt
   pub sprite-peek : Result host-looks-sprite-peek.Learnt
@@ -119,4 +119,4 @@ pub record HostLooks : Type 0 where
   pub mirroring : Result host-looks-mirroring.Learnt
 
 pub record HostReplay : Type 0 where
-  pub replay : Settles host-replay-replay.Learnt (λ κ a r e. leftReplay r (wordsLeft e) (memLeft (now (behind a .0)) (behind e .1)) (now (behind e .1 .1 .1 .1 .1 .1 .0)))
+  pub replay : Settles host-replay-replay.Learnt (λ κ a r e. leftReplay r (wordsLeft e) (memLeft (now (behindWords a .0)) (behindWords e .1)) (now (behindWords e .1 .1 .1 .1 .1 .1 .0)))

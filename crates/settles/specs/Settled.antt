@@ -23,9 +23,9 @@ abbrev pub beside : {X Y : Type 0} → X → Y → X × Y
 beside x y = (x, y)
 
 -- A lent buffer, and what comes behind it.
-abbrev pub Lent : Type 0 → Type 0
-Lent X = RefT (List ℕ) × X
+abbrev pub BufferThen : Type 0 → Type 0
+BufferThen X = RefT (List ℕ) × X
 
 -- A look at lent memory: PRG-ROM, which no call changes ([] where a function is not lent it), and the four buffers with which these parameters begin.
-abbrev pub memLeft : {X : Type 0} → List ℕ → Lent (Lent (Lent (Lent X))) → Mem
+abbrev pub memLeft : {X : Type 0} → List ℕ → BufferThen (BufferThen (BufferThen (BufferThen X))) → Mem
 memLeft prg e = memOf prg (now (e .0)) (now (e .1 .0)) (now (e .1 .1 .0)) (now (e .1 .1 .1 .0))
