@@ -12,7 +12,7 @@ use Rattle.trace.specs.declared.Call.{Call}
 use Rattle.logs.specs.Logs.{logLetter, logged}
 use Rattle.histories.specs.Boards.{Board}
 use Rattle.histories.specs.Replays.{boardAfterCalls, answerAt, letterAt, logAlong, Replays}
-use Rattle.histories.proofs.Replayed.{from-load, from-there, too-long, shut}
+use Rattle.histories.proofs.Replayed.{from-there, from-history, too-long, shut}
 
 module _ (log : List ℕ) (n : ℕ) (a : Answer) (up : Bool) where
   logged-length : length (logged log n a up) ≡ length log
@@ -75,8 +75,8 @@ module _ (b : Board) (log : List ℕ) where
 
 pub replays : Replays
 replays = record {
-  from-load = from-load;
-  from-history = λ l hs b h trace log s. from-there l hs b trace log h s;
+  from-open = from-there;
+  from-history = from-history;
   too-long = too-long;
   shut = shut;
   letter-logged = letter-logged;

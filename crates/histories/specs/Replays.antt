@@ -16,7 +16,7 @@ use Rattle.answers.specs.declared.Refusal.the-variants.{Length}
 use Rattle.answers.specs.Letters.{valueOf}
 use Rattle.answers.specs.Numbers.{numberOf}
 use Rattle.scanline.specs.Steps.{interruptUp}
-use Rattle.state.specs.declared.gate.Gate.the-variants.{Shut}
+use Rattle.state.specs.declared.gate.Gate.the-variants.{Open, Shut}
 use Rattle.state.specs.Gate.{gateMem}
 use Rattle.trace.specs.declared.Call.{Call}
 use Rattle.trace.specs.declared.Found.the-variants.{Record, Refused as Unreadable}
@@ -29,7 +29,7 @@ use Rattle.player.specs.Replay.{Left, ended, found, replayed}
 use Rattle.histories.specs.Boards.{Board, Made, says, leaves}
 use Rattle.histories.specs.Boards.Made.{call}
 use Rattle.histories.specs.Boards.Said.{answers}
-use Rattle.histories.specs.Histories.{Load, first, Reached}
+use Rattle.histories.specs.Histories.{Load, Leads, Reached}
 
 -- Which calls a replay makes, by the trace and the ending alone ---------------------------------------------------------------------------
 
@@ -88,12 +88,12 @@ logAlong b log (c ∷ cs) =
 abbrev pub boardIn : Left → Board
 boardIn x = record { state = x .out .state; mem = x .mem }
 
--- A replay from b, which the calls hs led to, leaves x.
-pub record Plays (l : Load) (hs : List Made) (b : Board) (trace log : List ℕ) (x : Left) : Type 0 where
+-- A replay from b leaves x.
+pub record Plays (b : Board) (trace log : List ℕ) (x : Left) : Type 0 where
   -- its calls are the trace's records, none left out, up to where it ends
   pub records : Records trace (playedCalls trace (x .out .ending)) (endOf trace (x .out .ending))
   -- they are accepted calls, "each takes the state and the memories as the call before it left them", and leave what the replay leaves
-  pub history : Reached l (map call (playedCalls trace (x .out .ending)) ++ hs) (boardIn x)
+  pub calls : Leads b (map call (playedCalls trace (x .out .ending))) (boardIn x)
   pub ends : Ends trace (boardIn x) (playedCalls trace (x .out .ending)) (x .out .ending)
   pub logs : x .log ≡ logAlong b log (playedCalls trace (x .out .ending))
 
@@ -101,12 +101,12 @@ abbrev pub replayOf : Board → List ℕ → List ℕ → Left
 replayOf b trace log = replayed (b .state) trace (b .mem) log
 
 pub record Replays : Type 0 where
-  -- from an accepted load on
-  pub from-load : (l : Load) (trace log : List ℕ) → length trace ≤ 8192
-      → Reached l (map call (playedCalls trace (replayOf (first l) trace log .out .ending))) (boardIn (replayOf (first l) trace log))
-  -- and from every history on, so that traces may be played one after the other; 4 and 5 are never given (`Ends`)
+  -- demand 1, "in replay that is said of the refused record": from every board with an open gate on, reached or not; 4 and 5 are then never given (`Ends`)
+  pub from-open : (b : Board) → gateMem (b .state) (b .mem) ≡ Open → (trace log : List ℕ) → length trace ≤ 8192 → Plays b trace log (replayOf b trace log)
+  -- from load, and from every history on (its gate is open: `gate` of specs/Accepted.antt), the history goes on with the calls that are played, so
+  -- that traces may be played one after the other
   pub from-history : (l : Load) (hs : List Made) (b : Board) → Reached l hs b → (trace log : List ℕ) → length trace ≤ 8192
-      → Plays l hs b trace log (replayOf b trace log)
+      → Reached l (map call (playedCalls trace (replayOf b trace log .out .ending)) ++ hs) (boardIn (replayOf b trace log))
   -- 11: "trace longer than 8,192 bytes", at place 0, and nothing changes; given for no other trace (`Ends`)
   pub too-long : (s : Board) (trace log : List ℕ) → 8192 < length trace → replayOf s trace log ≡ ended (Stopped 0 Length) (s .state) (s .mem) log
   -- 4 and 5, "at place 0 before any record, in an empty trace too": where the gate is shut, its refusal (crate `state`, specs/Gate.antt), and nothing changes
