@@ -1,5 +1,6 @@
--- 01, "Examples at the edges": "Cases marked P are proved as one list under one statement". Each case is a history of the board from load, and
--- what is then seen. The lists are `edges` and, for the boards that 01 shuts out by name, `shutOut`; below them what is promised of both.
+-- The cases of 01, "Examples at the edges", that are marked P. 01, "What each contract settles": "Cases marked P are proved as one list under one
+-- statement". Each case is a history of the board from load, and what is then seen; the last two ask module 8's formula alone. The lists are
+-- `edges` and, for the boards that 01 shuts out by name, `shutOut`; below them what is promised of both.
 -- Assumes nothing.
 use Prim.Native.Nat.{ℕ, _*_}
 use mathlib.Core.Bool.{Bool, true, false, _&&_}

@@ -107,7 +107,7 @@ pub record Replays : Type 0 where
   -- that traces may be played one after the other
   pub from-history : (l : Load) (hs : List Made) (b : Board) → Reached l hs b → (trace log : List ℕ) → length trace ≤ 8192
       → Reached l (map call (playedCalls trace (replayOf b trace log .out .ending)) ++ hs) (boardIn (replayOf b trace log))
-  -- 11: "trace longer than 8,192 bytes", at place 0, and nothing changes; given for no other trace (`Ends`)
+  -- 11: "trace longer than 8,192 bytes", at place 0, and nothing changes; given for no other trace (`Ends`, `shut`)
   pub too-long : (s : Board) (trace log : List ℕ) → 8192 < length trace → replayOf s trace log ≡ ended (Stopped 0 Length) (s .state) (s .mem) log
   -- 4 and 5, "at place 0 before any record, in an empty trace too": where the gate is shut, its refusal (crate `state`, specs/Gate.antt), and nothing changes
   pub shut : (s : Board) (trace log : List ℕ) (why : Refusal) → length trace ≤ 8192 → gateMem (s .state) (s .mem) ≡ Shut why
