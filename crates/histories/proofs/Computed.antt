@@ -25,7 +25,7 @@ use Rattle.scanline.specs.Tiles.{nextTile, tileRefused, tilesOk, spriteFetch, i
 use Rattle.scanline.specs.Ranges.{lineRefused, counterRefused, detectorOk}
 use Rattle.scanline.specs.Clock.{tick}
 use Rattle.scanline.specs.Steps.{again, matchesAfter, isLine, meets, seenAt}
-use Rattle.split.specs.Region.{splitAddress}
+use Rattle.split.specs.Region.{sideAt, regionAt, splitAddress, afterName}
 use Rattle.state.specs.Gate.{sameLengths, gateOf}
 use Rattle.state.specs.Lengths.{lengthsOk}
 use Rattle.state.specs.Ranges.{inRange}
@@ -45,7 +45,7 @@ use Rattle.promises.specs.Loading.{goodPrg, goodChr, goodRam}
 use Rattle.promises.proofs.Loadings.{load-refusals}
 use Rattle.histories.specs.Boards.{Board, Made, says, leaves, number, numberIn}
 use Rattle.histories.specs.Histories.{Load, Reached}
-use Rattle.histories.specs.Edges.{lent, start, loadAccepted, accepted, after, seen, comes, edges, shutOut, Edges, ShutOut, onto, CasesAreHistories}
+use Rattle.histories.specs.Edges.{lent, start, loadAccepted, accepted, after, seen, comes, inTurn, edges, shutOut, Edges, ShutOut, onto, CasesAreHistories}
 use Rattle.histories.proofs.Behind.{numbered}
 
 -- What the cases come to.
@@ -53,7 +53,7 @@ abbrev all-some : List ℕ → List (Option ℕ)
 all-some l = map some l
 
 come : (map comes edges ≡ all-some (159 ∷ 1 ∷ 254 ∷ 1 ∷ 64 ∷ 64 ∷ 64 ∷ 192 ∷ 64 ∷ 64 ∷ 0 ∷ 0 ∷ 9 ∷ 6 ∷ 6 ∷ 959 ∷ 928 ∷ [])) × (map comes shutOut ≡ all-some (1 ∷ 254 ∷ 7 ∷ 7 ∷ 63 ∷ 5 ∷ 192 ∷ 64 ∷ 192 ∷ []))
-unfolding nextTile tileRefused tilesOk spriteFetch isFirst isPrefetched columnOf lineRefused counterRefused detectorOk tick again matchesAfter isLine meets seenAt offsetOf byteAt storedAt pageStored all prgShowsAs chrShowsAs wordNumber pageOf pageStart windowPage written regsOk placed prgValues prgShown windowsMapped exramPage windowPages chrNumber chrMapped selector namePage namesMapped sameLengths gateOf lengthsOk inRange splitAddress chosen ppuAfter splitAfter irqAfter prgBanksAfter chrBanksAfter pageAnswer registerRead irqRead cpuAnswer prgPagesAfter chrPagesAfter registerWritten latched cpuStored cacheAfter ppuSeen splitSeen countedServed loadedState loadCall cpuRead cpuWrite clockCall statusTold detectorTold ppuRegisterCall countedCall ppuFetch chrAnswer says leaves number comes loadAccepted accepted after seen
+unfolding nextTile tileRefused tilesOk spriteFetch isFirst isPrefetched columnOf lineRefused counterRefused detectorOk tick again matchesAfter isLine meets seenAt offsetOf byteAt storedAt pageStored all prgShowsAs chrShowsAs wordNumber pageOf pageStart windowPage written regsOk placed prgValues prgShown windowsMapped exramPage windowPages chrNumber chrMapped selector namePage namesMapped sameLengths gateOf lengthsOk inRange sideAt regionAt splitAddress afterName chosen ppuAfter splitAfter irqAfter prgBanksAfter chrBanksAfter pageAnswer registerRead irqRead cpuAnswer prgPagesAfter chrPagesAfter registerWritten latched cpuStored cacheAfter ppuSeen splitSeen countedServed loadedState loadCall cpuRead cpuWrite clockCall statusTold detectorTold ppuRegisterCall countedCall ppuFetch chrAnswer says leaves number comes loadAccepted accepted after seen inTurn
 come = (refl, refl)
 
 -- These are the values that are asked for.

@@ -1,8 +1,8 @@
 -- The cases of 01, "Examples at the edges", that are marked P. 01, "What each contract settles": "Cases marked P are proved as one list under one
--- statement". Each case is a history of the board from load, and what is then seen; the last two ask module 8's formula alone. The lists are
--- `edges` and, for the boards that 01 shuts out by name, `shutOut`; below them what is promised of both.
+-- statement". Each case is a history of the board from load, and what is then seen. The lists are `edges` and, for the boards that 01 shuts out
+-- by name, `shutOut`; below them what is promised of both.
 -- Assumes nothing.
-use Prim.Native.Nat.{ℕ, _*_}
+use Prim.Native.Nat.{ℕ, zero, suc, _*_}
 use mathlib.Core.Bool.{Bool, true, false, _&&_}
 use mathlib.Core.Path.{_≡_}
 use mathlib.Core.List.{List, [], _∷_, _++_, map}
@@ -16,7 +16,6 @@ use Rattle.memory.specs.Words.{pick, pageOf}
 use Rattle.answers.specs.declared.Answer.{Answer}
 use Rattle.answers.specs.Letters.{letterOf, valueOf}
 use Rattle.registers.specs.declared.Mirroring.the-variants.{Horizontal}
-use Rattle.split.specs.Region.{splitAddress}
 use Rattle.board.specs.CpuSide.{cpuRead}
 use Rattle.board.specs.Loads.{loadCall}
 use Rattle.board_ppu.specs.Peeks.{chrWordAt}
@@ -25,13 +24,13 @@ use Rattle.histories.specs.Histories.{Load, Reached}
 use Rattle.histories.specs.Shorthand.{read, write, tell, fetch, clock}
 
 -- Where a case looks: at what a CPU read answers from a register (letter `R`) or from a page (`M`), at a byte of ExRAM, at the number of the CHR
--- page that a place of the CHR table shows, or, with no board, at the address that module 8 gives for a scroll and a column.
+-- page that a place of the CHR table shows, or at the split's tile address.
 pub data Sight : Type 0 where
   reads : (a : ℕ) → Sight
   reads-page : (a : ℕ) → Sight
   holds : (i : ℕ) → Sight
   maps : (place : ℕ) → Sight
-  gives : (scroll column : ℕ) → Sight
+  tile-address : Sight
 
 -- A cartridge by the lengths of PRG-ROM, CHR (as ROM) and PRG-RAM; the calls in the order in which they are made; where the case
 -- then looks, and the value that is seen.
@@ -79,7 +78,7 @@ seen b (reads a) = lettered 0x52 (cpuRead (b .state) (b .mem) a .answer)
 seen b (reads-page a) = lettered 0x4D (cpuRead (b .state) (b .mem) a .answer)
 seen b (holds i) = some (getD (b .mem .exram) i 0)
 seen b (maps place) = chrPage (pageOf (chrWordAt (b .state .«chr_pages») (place * 1024)) .src) (pageOf (chrWordAt (b .state .«chr_pages») (place * 1024)) .index)
-seen b (gives scroll column) = some (splitAddress scroll column)
+seen b tile-address = some (b .state .vsplit .«tile_addr»)
 
 -- What a case comes to: none, if its load or a call is refused.
 unfoldable pub comes : Case → Option ℕ
@@ -87,6 +86,16 @@ comes c = pick (loadAccepted c && accepted (start c) (c .calls)) (seen (after (s
 
 abbrev pub threeFetches : List Made
 threeFetches = fetch 0x2000 ∷ fetch 0x2000 ∷ fetch 0x2000 ∷ []
+
+-- n fetches of two addresses in turn; no two that follow each other are equal.
+unfoldable pub inTurn : ℕ → ℕ → ℕ → List Made
+inTurn zero a a' = []
+inTurn (suc n) a a' = fetch a ∷ inTurn n a' a
+
+-- Nametable use, split at tile 3, scroll 239; then line 0 and n name fetches, the last at column n + 2. The region is clear after load, and
+-- column 3 flips it.
+abbrev pub scrolled : ℕ → List Made
+scrolled n = write 0x5104 0 ∷ write 0x5200 0x83 ∷ write 0x5201 239 ∷ (threeFetches ++ inTurn n 0x2001 0x2002)
 
 -- A case over a cartridge with PRG-ROM 8,192, CHR 8,192 and no PRG-RAM; over one with another PRG-ROM.
 abbrev pub overPrg : ℕ → List Made → Sight → ℕ → Case
@@ -120,8 +129,8 @@ edges =
     ∷ case (tell 0x2000 0x20 ∷ write 0x5128 6 ∷ []) (maps 0) 6
     ∷ case (tell 0x2000 0x20 ∷ write 0x5128 6 ∷ []) (maps 4) 6
     -- "scroll 239: column 31 gives 959, column 32 gives 928."
-    ∷ case [] (gives 239 31) 959
-    ∷ case [] (gives 239 32) 928
+    ∷ case (scrolled 29) tile-address 959
+    ∷ case (scrolled 30) tile-address 928
     ∷ []
 
 -- 01, "What each contract settles": "Shut out by name: a board that refuses every call (demand 2), gives one fixed byte (2), stores nothing (2), or
