@@ -30,12 +30,12 @@ use Rattle.lines.specs.Promise.Played.{at-load, taken}
 use Rattle.player.specs.declared.Ending.the-variants.{Stopped}
 use Rattle.logs.specs.Logs.{logged}
 use Rattle.player.specs.Replay.{Left, ended, found, answered, playedFrom, played, replayed}
-use Rattle.histories.specs.Boards.{Board, Made, says, leaves, number, numberIn}
+use Rattle.histories.specs.Boards.{Board, Made, says, leaves, boardAfter, number, numberIn}
 use Rattle.histories.specs.Boards.Made.{call}
 use Rattle.histories.specs.Boards.Said.{answers}
 use Rattle.histories.specs.Histories.{Load, Leads, Reached}
 use Rattle.histories.specs.Accepted.{watch, refusal}
-use Rattle.histories.specs.Replays.{recordsTo, endOf, playedCalls, Records, Ends, boardAfterCalls, answerAt, logAlong, boardIn, Plays, replayOf}
+use Rattle.histories.specs.Replays.{recordsTo, endOf, playedCalls, Records, Ends, answerAt, logAlong, boardIn, Plays, replayOf}
 use Rattle.histories.specs.Replays.Records.{none, one-more}
 use Rattle.histories.specs.Replays.Ends.{counted, unreadable, refused}
 use Rattle.histories.proofs.Along.{Opened, open-on, open-along}
@@ -133,7 +133,7 @@ takes : (b : Board) (c : Call) → numberIn (answerAt b c) ≡ 0 → number (say
 unfolding says number
 takes b c e = e
 
-logs-on : (b₀ : Board) (log₀ : List ℕ) (b : Board) (c : Call) (count : ℕ) (log : List ℕ) (cs : List Call) → count ≡ length cs → b ≡ boardAfterCalls b₀ cs → log ≡ logAlong b₀ log₀ cs
+logs-on : (b₀ : Board) (log₀ : List ℕ) (b : Board) (c : Call) (count : ℕ) (log : List ℕ) (cs : List Call) → count ≡ length cs → b ≡ boardAfter b₀ (map call cs) → log ≡ logAlong b₀ log₀ cs
     → logged log count (answerAt b c) (interruptUp (leaves b (call c) .state .irq)) ≡ logAlong b₀ log₀ (c ∷ cs)
 unfolding logAlong
 logs-on b₀ log₀ b c count log cs q k g = rw (q, k, g)
@@ -152,8 +152,8 @@ module _ (b₀ : Board) (o₀ : Opened b₀) (trace log₀ : List ℕ) where
       }
 
   walk : (n at count : ℕ) (log : List ℕ) (cs : List Call) (b : Board) → length trace < n + at → count ≡ length cs → Records trace cs at → Leads b₀ (map call cs) b
-      → b ≡ boardAfterCalls b₀ cs → log ≡ logAlong b₀ log₀ cs → Walked b₀ trace log₀ (playedFrom n trace at count (b .state) (b .mem) log)
-  unfolding playedFrom boardAfterCalls leaves
+      → b ≡ boardAfter b₀ (map call cs) → log ≡ logAlong b₀ log₀ cs → Walked b₀ trace log₀ (playedFrom n trace at count (b .state) (b .mem) log)
+  unfolding playedFrom boardAfter leaves
   walk zero at count log cs b f q r h k g = absurd (omega (arith, f, inside trace r .0))
   walk (suc n) at count log cs b f q r h k g =
       found-case (Walked b₀ trace log₀) (recordAt trace at) _ _ _
@@ -178,7 +178,7 @@ module _ (b₀ : Board) (o₀ : Opened b₀) (trace log₀ : List ℕ) where
       }
 
   starts : Plays b₀ trace log₀ (played (b₀ .state) trace (b₀ .mem) log₀)
-  unfolding boardAfterCalls logAlong
+  unfolding boardAfter logAlong
   starts = fits _ (walk (length trace + 1) 0 0 log₀ [] b₀ (omega arith) refl none at-load refl refl)
 
   pub from-there : length trace ≤ 8192 → Plays b₀ trace log₀ (replayOf b₀ trace log₀)

@@ -19,7 +19,7 @@ use Rattle.registers.specs.declared.Mirroring.the-variants.{Horizontal}
 use Rattle.board.specs.CpuSide.{cpuRead}
 use Rattle.board.specs.Loads.{loadCall}
 use Rattle.board_ppu.specs.Peeks.{chrWordAt}
-use Rattle.histories.specs.Boards.{Board, Made, says, leaves, number, numberIn}
+use Rattle.histories.specs.Boards.{Board, Made, says, leaves, boardAfter, number, numberIn}
 use Rattle.histories.specs.Histories.{Load, Reached}
 use Rattle.histories.specs.Shorthand.{read, write, tell, fetch, clock}
 
@@ -52,14 +52,18 @@ start c = record { state = loadCall (lent c) false Horizontal .state; mem = lent
 unfoldable pub loadAccepted : Case → Bool
 loadAccepted c = eqb (numberIn (loadCall (lent c) false Horizontal .answer)) 0
 
--- Each call is accepted, as the call before it left the board; and what the last leaves.
+-- Each call is accepted, as the call before it left the board.
 unfoldable pub accepted : Board → List Made → Bool
 accepted b [] = true
 accepted b (c ∷ cs) = eqb (number (says b c)) 0 && accepted (leaves b c) cs
 
-unfoldable pub after : Board → List Made → Board
-after b [] = b
-after b (c ∷ cs) = after (leaves b c) cs
+-- The calls of a case, the newest first, on top of others; and the board that they leave.
+unfoldable pub onto : List Made → List Made → List Made
+onto [] hs = hs
+onto (c ∷ cs) hs = onto cs (c ∷ hs)
+
+abbrev pub end : Case → Board
+end c = boardAfter (start c) (onto (c .calls) [])
 
 -- The value of an answer with a letter, and the number of a CHR page.
 abbrev pub lettered : ℕ → Answer → Option ℕ
@@ -82,12 +86,12 @@ seen b tile-address = some (b .state .vsplit .«tile_addr»)
 
 -- What a case comes to: none, if its load or a call is refused.
 unfoldable pub comes : Case → Option ℕ
-comes c = pick (loadAccepted c && accepted (start c) (c .calls)) (seen (after (start c) (c .calls)) (c .sight)) none
+comes c = pick (loadAccepted c && accepted (start c) (c .calls)) (seen (end c) (c .sight)) none
 
 abbrev pub threeFetches : List Made
 threeFetches = fetch 0x2000 ∷ fetch 0x2000 ∷ fetch 0x2000 ∷ []
 
--- n fetches of two addresses in turn; no two that follow each other are equal.
+-- n fetches of two addresses in turn.
 unfoldable pub inTurn : ℕ → ℕ → ℕ → List Made
 inTurn zero a a' = []
 inTurn (suc n) a a' = fetch a ∷ inTurn n a' a
@@ -163,16 +167,11 @@ Edges = Hold edges
 abbrev pub ShutOut : Type 0
 ShutOut = Hold shutOut
 
--- The calls of a case, the newest first, on top of others.
-unfoldable pub onto : List Made → List Made → List Made
-onto [] hs = hs
-onto (c ∷ cs) hs = onto cs (c ∷ hs)
-
 -- A case that comes to something is a history: its load is accepted, and its calls lead from there to the board at which it looks.
 pub record Lived (c : Case) : Type 0 where
   pub load : Load
   pub lends : load .mem ≡ lent c
-  pub calls : Reached load (onto (c .calls) []) (after (start c) (c .calls))
+  pub calls : Reached load (onto (c .calls) []) (end c)
 
 abbrev pub CasesAreHistories : Type 0
 CasesAreHistories = (c : Case) (v : ℕ) → comes c ≡ some v → Lived c

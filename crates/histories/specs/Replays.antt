@@ -26,7 +26,7 @@ use Rattle.player.specs.declared.Ending.{Ending}
 use Rattle.player.specs.declared.Ending.the-variants.{Done, Stopped}
 use Rattle.logs.specs.Logs.{logLetter, logged}
 use Rattle.player.specs.Replay.{Left, ended, found, replayed}
-use Rattle.histories.specs.Boards.{Board, Made, says, leaves}
+use Rattle.histories.specs.Boards.{Board, Made, says, leaves, boardAfter}
 use Rattle.histories.specs.Boards.Made.{call}
 use Rattle.histories.specs.Boards.Said.{answers}
 use Rattle.histories.specs.Histories.{Load, Leads, Reached}
@@ -65,21 +65,18 @@ pub data Ends (trace : List ℕ) (b : Board) (cs : List Call) : Ending → Type 
 
 -- What it logs ----------------------------------------------------------------------------------------------------------------------------
 
--- The board after calls from b on, what a call then answers, and whether the interrupt is up after it.
-unfoldable pub boardAfterCalls : Board → List Call → Board
-boardAfterCalls b [] = b
-boardAfterCalls b (c ∷ cs) = leaves (boardAfterCalls b cs) (call c)
-
+-- What a call answers at b, and its letter in the log, which also tells whether the interrupt is up after it.
 abbrev pub answerAt : Board → Call → Answer
 answerAt b c = called c (b .state) (b .mem) .out .answer
 
 abbrev pub letterAt : Board → Call → ℕ
 letterAt b c = logLetter (answerAt b c) (interruptUp (leaves b (call c) .state .irq))
 
+-- The log after calls from b on.
 unfoldable pub logAlong : Board → List ℕ → List Call → List ℕ
 logAlong b log [] = log
 logAlong b log (c ∷ cs) =
-    let b' = boardAfterCalls b cs in
+    let b' = boardAfter b (map call cs) in
     logged (logAlong b log cs) (length cs) (answerAt b' c) (interruptUp (leaves b' (call c) .state .irq))
 
 -- The promise -----------------------------------------------------------------------------------------------------------------------------
@@ -114,8 +111,8 @@ pub record Replays : Type 0 where
       → replayOf s trace log ≡ ended (Stopped 0 why) (s .state) (s .mem) log
   -- bytes 2 i and 2 i + 1 of the log tell of record i, where the log has them: after the earlier calls came c, and then the later ones
   pub letter-logged : (b : Board) (log : List ℕ) (later : List Call) (c : Call) (earlier : List Call) → 2 * length earlier < length log
-      → getD (logAlong b log (later ++ (c ∷ earlier))) (2 * length earlier) 0 ≡ letterAt (boardAfterCalls b earlier) c
+      → getD (logAlong b log (later ++ (c ∷ earlier))) (2 * length earlier) 0 ≡ letterAt (boardAfter b (map call earlier)) c
   pub value-logged : (b : Board) (log : List ℕ) (later : List Call) (c : Call) (earlier : List Call) → 2 * length earlier + 1 < length log
-      → getD (logAlong b log (later ++ (c ∷ earlier))) (2 * length earlier + 1) 0 ≡ valueOf (answerAt (boardAfterCalls b earlier) c)
+      → getD (logAlong b log (later ++ (c ∷ earlier))) (2 * length earlier + 1) 0 ≡ valueOf (answerAt (boardAfter b (map call earlier)) c)
   -- and the log's other bytes stay
   pub others-kept : (b : Board) (log : List ℕ) (cs : List Call) (i : ℕ) → 2 * length cs ≤ i → getD (logAlong b log cs) i 0 ≡ getD log i 0
