@@ -18,7 +18,7 @@ use Rattle.lines.specs.Promise.Played.{at-load, taken}
 use Rattle.promises.proofs.Promised.{gate-stays-open}
 use Rattle.histories.specs.Boards.{Board, Made, says, leaves, number}
 use Rattle.histories.specs.Boards.Made.{call, peek, ppu-peek, sprite-peek, mirroring-asked, interrupt-asked, cpu-page, ppu-page}
-use Rattle.histories.specs.Histories.{Load, first, Reached, event}
+use Rattle.histories.specs.Histories.{Load, first, Leads, Reached, event}
 use Rattle.histories.specs.Accepted.{watch, refusal, acceptable, Along}
 use Rattle.histories.proofs.Behind.{exactly}
 use Rattle.histories.proofs.Following.{takes-over}
@@ -44,9 +44,12 @@ stays-open b interrupt-asked h = h
 stays-open b (cpu-page a) h = h
 stays-open b (ppu-page a) h = h
 
+pub open-on : {a : Board} → Opened a → {cs : List Made} {b : Board} → Leads a cs b → Opened b
+open-on h at-load = h
+open-on h (taken {s = b} c r t) = rw (t .left) (stays-open b c (open-on h r))
+
 pub open-along : (l : Load) {cs : List Made} {b : Board} → Reached l cs b → Opened b
-open-along l at-load = gate-stays-open .load (l .mem) (l .as-ram) (l .mirroring) (l .accepted)
-open-along l (taken {s = b} c r t) = rw (t .left) (stays-open b c (open-along l r))
+open-along l r = open-on (gate-stays-open .load (l .mem) (l .as-ram) (l .mirroring) (l .accepted)) r
 
 -- The detector and the tile count, told by the calls alone -----------------------------------------------------------------------------
 

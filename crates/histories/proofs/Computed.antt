@@ -25,7 +25,7 @@ use Rattle.scanline.specs.Tiles.{nextTile, tileRefused, tilesOk, spriteFetch, i
 use Rattle.scanline.specs.Ranges.{lineRefused, counterRefused, detectorOk}
 use Rattle.scanline.specs.Clock.{tick}
 use Rattle.scanline.specs.Steps.{again, matchesAfter, isLine, meets, seenAt}
-use Rattle.split.specs.Region.{splitAddress}
+use Rattle.split.specs.Region.{sideAt, regionAt, splitAddress, afterName}
 use Rattle.state.specs.Gate.{sameLengths, gateOf}
 use Rattle.state.specs.Lengths.{lengthsOk}
 use Rattle.state.specs.Ranges.{inRange}
@@ -43,9 +43,9 @@ use Rattle.board_ppu.specs.Peeks.{chrAnswer}
 use Rattle.lines.specs.Promise.Played.{at-load, taken}
 use Rattle.promises.specs.Loading.{goodPrg, goodChr, goodRam}
 use Rattle.promises.proofs.Loadings.{load-refusals}
-use Rattle.histories.specs.Boards.{Board, Made, says, leaves, number, numberIn}
-use Rattle.histories.specs.Histories.{Load, Reached}
-use Rattle.histories.specs.Edges.{lent, start, loadAccepted, accepted, after, seen, comes, edges, shutOut, Edges, ShutOut, onto, CasesAreHistories}
+use Rattle.histories.specs.Boards.{Board, Made, says, leaves, boardAfter, number, numberIn}
+use Rattle.histories.specs.Histories.{Load, first, Reached}
+use Rattle.histories.specs.Edges.{lent, start, loadAccepted, accepted, seen, comes, inTurn, edges, shutOut, Edges, ShutOut, onto, CasesAreHistories}
 use Rattle.histories.proofs.Behind.{numbered}
 
 -- What the cases come to.
@@ -53,7 +53,7 @@ abbrev all-some : List ℕ → List (Option ℕ)
 all-some l = map some l
 
 come : (map comes edges ≡ all-some (159 ∷ 1 ∷ 254 ∷ 1 ∷ 64 ∷ 64 ∷ 64 ∷ 192 ∷ 64 ∷ 64 ∷ 0 ∷ 0 ∷ 9 ∷ 6 ∷ 6 ∷ 959 ∷ 928 ∷ [])) × (map comes shutOut ≡ all-some (1 ∷ 254 ∷ 7 ∷ 7 ∷ 63 ∷ 5 ∷ 192 ∷ 64 ∷ 192 ∷ []))
-unfolding nextTile tileRefused tilesOk spriteFetch isFirst isPrefetched columnOf lineRefused counterRefused detectorOk tick again matchesAfter isLine meets seenAt offsetOf byteAt storedAt pageStored all prgShowsAs chrShowsAs wordNumber pageOf pageStart windowPage written regsOk placed prgValues prgShown windowsMapped exramPage windowPages chrNumber chrMapped selector namePage namesMapped sameLengths gateOf lengthsOk inRange splitAddress chosen ppuAfter splitAfter irqAfter prgBanksAfter chrBanksAfter pageAnswer registerRead irqRead cpuAnswer prgPagesAfter chrPagesAfter registerWritten latched cpuStored cacheAfter ppuSeen splitSeen countedServed loadedState loadCall cpuRead cpuWrite clockCall statusTold detectorTold ppuRegisterCall countedCall ppuFetch chrAnswer says leaves number comes loadAccepted accepted after seen
+unfolding nextTile tileRefused tilesOk spriteFetch isFirst isPrefetched columnOf lineRefused counterRefused detectorOk tick again matchesAfter isLine meets seenAt offsetOf byteAt storedAt pageStored all prgShowsAs chrShowsAs wordNumber pageOf pageStart windowPage written regsOk placed prgValues prgShown windowsMapped exramPage windowPages chrNumber chrMapped selector namePage namesMapped sameLengths gateOf lengthsOk inRange sideAt regionAt splitAddress afterName chosen ppuAfter splitAfter irqAfter prgBanksAfter chrBanksAfter pageAnswer registerRead irqRead cpuAnswer prgPagesAfter chrPagesAfter registerWritten latched cpuStored cacheAfter ppuSeen splitSeen countedServed loadedState loadCall cpuRead cpuWrite clockCall statusTold detectorTold ppuRegisterCall countedCall ppuFetch chrAnswer says leaves number comes boardAfter loadAccepted accepted onto seen inTurn
 come = (refl, refl)
 
 -- These are the values that are asked for.
@@ -74,11 +74,12 @@ load-accepted m asRam mirroring n =
     (λ p. numbered Prg (rw p at n))
 
 -- Calls on top of a history, each accepted.
-goes-on : (l : Load) (hs : List Made) (b : Board) (cs : List Made) → Reached l hs b → accepted b cs ≡ true → Reached l (onto cs hs) (after b cs)
-unfolding accepted after onto
-goes-on l hs b [] r e = r
-goes-on l hs b (c ∷ cs) r e =
-    goes-on l (c ∷ hs) (leaves b c) cs
+goes-on : (l : Load) (hs cs : List Made) → let b = boardAfter (first l) hs in Reached l hs b → accepted b cs ≡ true → Reached l (onto cs hs) (boardAfter (first l) (onto cs hs))
+unfolding accepted boardAfter onto
+goes-on l hs [] r e = r
+goes-on l hs (c ∷ cs) r e =
+    let b = boardAfter (first l) hs in
+    goes-on l (c ∷ hs) cs
     (taken c r (record { accepted = eqb-true _ 0 (and-left _ (accepted (leaves b c) cs) e); left = refl }))
     (and-right (eqb (number (says b c)) 0) (accepted (leaves b c) cs) e)
 
@@ -86,10 +87,10 @@ none-is-not : {v : ℕ} {A : Type 0} → _≡_ {A = Option ℕ} none (some v) �
 none-is-not e = let z : _≡_ {A = ℕ} 0 1 = cc in absurd (omega arith)
 
 pub cases-are-histories : CasesAreHistories
-unfolding comes loadAccepted
+unfolding comes loadAccepted boardAfter
 cases-are-histories c v e =
     split (loadAccepted c && accepted (start c) (c .calls))
     (λ t.
     let l : Load = record { mem = lent c; as-ram = false; mirroring = Horizontal; accepted = load-accepted (lent c) false Horizontal (eqb-true _ 0 (and-left (loadAccepted c) _ t)) } in
-    record { load = l; lends = refl; calls = goes-on l [] (start c) (c .calls) at-load (and-right (loadAccepted c) (accepted (start c) (c .calls)) t) })
+    record { load = l; lends = refl; calls = goes-on l [] (c .calls) at-load (and-right (loadAccepted c) (accepted (start c) (c .calls)) t) })
     (λ t. none-is-not (rw t at e))

@@ -1,7 +1,7 @@
 -- What a replay logs: the bytes of each record, and no others.
 use Prim.Native.Nat.{ℕ, _+_, _*_, _<_, _≤_}
 use mathlib.Core.Bool.{Bool}
-use mathlib.Core.List.{List, [], _∷_, _++_}
+use mathlib.Core.List.{List, [], _∷_, _++_, map}
 use mathlib.Core.Path.{_≡_, refl, _∙_}
 use native.Mathlib.Omega.{arith}
 use lib.ListN.{length, getD, set, length-set, length-append}
@@ -10,9 +10,10 @@ use Rattle.answers.specs.declared.Answer.{Answer}
 use Rattle.answers.specs.Letters.{valueOf}
 use Rattle.trace.specs.declared.Call.{Call}
 use Rattle.logs.specs.Logs.{logLetter, logged}
-use Rattle.histories.specs.Boards.{Board}
-use Rattle.histories.specs.Replays.{boardAfterCalls, answerAt, letterAt, logAlong, Replays}
-use Rattle.histories.proofs.Replayed.{from-load, from-there, too-long, shut}
+use Rattle.histories.specs.Boards.{Board, boardAfter}
+use Rattle.histories.specs.Boards.Made.{call}
+use Rattle.histories.specs.Replays.{answerAt, letterAt, logAlong, Replays}
+use Rattle.histories.proofs.Replayed.{from-there, from-history, too-long, shut}
 
 module _ (log : List ℕ) (n : ℕ) (a : Answer) (up : Bool) where
   logged-length : length (logged log n a up) ≡ length log
@@ -53,14 +54,14 @@ module _ (b : Board) (log : List ℕ) where
       ∙ later-keeps later earlier i h
 
   letter-logged : (later : List Call) (c : Call) (earlier : List Call) → 2 * length earlier < length log
-      → getD (logAlong b log (later ++ (c ∷ earlier))) (2 * length earlier) 0 ≡ letterAt (boardAfterCalls b earlier) c
+      → getD (logAlong b log (later ++ (c ∷ earlier))) (2 * length earlier) 0 ≡ letterAt (boardAfter b (map call earlier)) c
   unfolding logAlong
   letter-logged later c earlier h =
       later-keeps later (c ∷ earlier) (2 * length earlier) (omega arith)
       ∙ logged-letter (logAlong b log earlier) (length earlier) _ _ (omega (arith, h, along-length earlier))
 
   value-logged : (later : List Call) (c : Call) (earlier : List Call) → 2 * length earlier + 1 < length log
-      → getD (logAlong b log (later ++ (c ∷ earlier))) (2 * length earlier + 1) 0 ≡ valueOf (answerAt (boardAfterCalls b earlier) c)
+      → getD (logAlong b log (later ++ (c ∷ earlier))) (2 * length earlier + 1) 0 ≡ valueOf (answerAt (boardAfter b (map call earlier)) c)
   unfolding logAlong
   value-logged later c earlier h =
       later-keeps later (c ∷ earlier) (2 * length earlier + 1) (omega arith)
@@ -75,8 +76,8 @@ module _ (b : Board) (log : List ℕ) where
 
 pub replays : Replays
 replays = record {
-  from-load = from-load;
-  from-history = λ l hs b h trace log s. from-there l hs b trace log h s;
+  from-open = from-there;
+  from-history = from-history;
   too-long = too-long;
   shut = shut;
   letter-logged = letter-logged;

@@ -3,15 +3,15 @@ use mathlib.Core.Bool.{true}
 use mathlib.Core.List.{List}
 use mathlib.Core.Path.{_≡_, refl, sym, _∙_, ap}
 use Rattle.lines.specs.Promise.Played.{at-load, taken}
-use Rattle.histories.specs.Boards.{Board, Made, Said, says, leaves}
-use Rattle.histories.specs.Histories.{Load, Reached}
+use Rattle.histories.specs.Boards.{Board, Made, Said, says, leaves, boardAfter}
+use Rattle.histories.specs.Histories.{Load, first, Reached}
 use Rattle.histories.specs.Accepted.{acceptable}
-use Rattle.histories.specs.Results.{Heard, boardAfter, saidAlong, OneResult}
+use Rattle.histories.specs.Results.{Heard, saidAlong, OneResult}
 use Rattle.histories.specs.Results.Heard.{at-load as heard-at-load, next}
 use Rattle.histories.proofs.Along.{are-reached}
 
 module _ (l : Load) where
-  board-is : {cs : List Made} {said : List Said} {b : Board} → Heard l cs said b → b ≡ boardAfter l cs
+  board-is : {cs : List Made} {said : List Said} {b : Board} → Heard l cs said b → b ≡ boardAfter (first l) cs
   unfolding boardAfter
   board-is heard-at-load = refl
   board-is (next c a b' h s e n) = e ∙ ap (λ (b : Board). leaves b c) (board-is h)
@@ -21,7 +21,7 @@ module _ (l : Load) where
   answers-are heard-at-load = refl
   answers-are (next {b = b} c a b' h s e n) = rw (s, board-is h, answers-are h)
 
-  pub reached-board : {cs : List Made} {b : Board} → Reached l cs b → b ≡ boardAfter l cs
+  pub reached-board : {cs : List Made} {b : Board} → Reached l cs b → b ≡ boardAfter (first l) cs
   unfolding boardAfter
   reached-board at-load = refl
   reached-board (taken c r t) = t .left ∙ ap (λ (b : Board). leaves b c) (reached-board r)
@@ -34,10 +34,10 @@ module _ (l : Load) where
   unfolding saidAlong
   to-heard at-load = heard-at-load
   to-heard (taken {cs = cs} {s = b} {s' = b'} c r t) =
-      let q : b ≡ boardAfter l cs = reached-board r in
-      next c (says (boardAfter l cs) c) b' (to-heard r) (ap (λ (x : Board). says x c) (sym q)) (t .left) (rw (← q) (t .accepted))
+      let q : b ≡ boardAfter (first l) cs = reached-board r in
+      next c (says (boardAfter (first l) cs) c) b' (to-heard r) (ap (λ (x : Board). says x c) (sym q)) (t .left) (rw (← q) (t .accepted))
 
-  results : (cs : List Made) → acceptable cs ≡ true → Heard l cs (saidAlong l cs) (boardAfter l cs)
+  results : (cs : List Made) → acceptable cs ≡ true → Heard l cs (saidAlong l cs) (boardAfter (first l) cs)
   results cs e = let p = are-reached l cs e in rw (← reached-board (p .1)) (to-heard (p .1))
 
 pub one-result : OneResult

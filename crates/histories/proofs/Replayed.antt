@@ -1,7 +1,7 @@
 -- Replay of a trace is a history: by induction over its records.
 use Prim.Native.Nat.{ℕ, zero, suc, _+_, _-_, _<_, _≤_}
 use mathlib.Core.Bool.{Bool, true, false}
-use mathlib.Core.List.{List, [], _∷_, _++_, map, append-nil}
+use mathlib.Core.List.{List, [], _∷_, _++_, map}
 use mathlib.Core.Logic.{_⊎_, inl, inr}
 use mathlib.Core.Path.{_≡_, refl, sym, _∙_, ap, subst}
 use native.Mathlib.Omega.{arith}
@@ -30,15 +30,15 @@ use Rattle.lines.specs.Promise.Played.{at-load, taken}
 use Rattle.player.specs.declared.Ending.the-variants.{Stopped}
 use Rattle.logs.specs.Logs.{logged}
 use Rattle.player.specs.Replay.{Left, ended, found, answered, playedFrom, played, replayed}
-use Rattle.histories.specs.Boards.{Board, Made, says, leaves, number, numberIn}
+use Rattle.histories.specs.Boards.{Board, Made, says, leaves, boardAfter, number, numberIn}
 use Rattle.histories.specs.Boards.Made.{call}
 use Rattle.histories.specs.Boards.Said.{answers}
-use Rattle.histories.specs.Histories.{Load, first, Reached}
+use Rattle.histories.specs.Histories.{Load, Leads, Reached}
 use Rattle.histories.specs.Accepted.{watch, refusal}
-use Rattle.histories.specs.Replays.{recordsTo, endOf, playedCalls, Records, Ends, boardAfterCalls, answerAt, logAlong, boardIn, Plays, replayOf}
+use Rattle.histories.specs.Replays.{recordsTo, endOf, playedCalls, Records, Ends, answerAt, logAlong, boardIn, Plays, replayOf}
 use Rattle.histories.specs.Replays.Records.{none, one-more}
 use Rattle.histories.specs.Replays.Ends.{counted, unreadable, refused}
-use Rattle.histories.proofs.Along.{open-along}
+use Rattle.histories.proofs.Along.{Opened, open-on, open-along}
 use Rattle.histories.proofs.Behind.{exactly, numbered as no-zero}
 use Rattle.histories.proofs.GivenBack.{refusals}
 
@@ -122,10 +122,10 @@ answered-case P Blank stop go f g = g refl
 answered-case P (Refused why) stop go f g = f why refl
 
 -- The accepted calls of a replay that leaves x.
-record Walked (l : Load) (hs : List Made) (b₀ : Board) (trace log₀ : List ℕ) (x : Left) : Type 0 where
+record Walked (b₀ : Board) (trace log₀ : List ℕ) (x : Left) : Type 0 where
   calls : List Call
   records : Records trace calls (endOf trace (x .out .ending))
-  history : Reached l (map call calls ++ hs) (boardIn x)
+  leads : Leads b₀ (map call calls) (boardIn x)
   ends : Ends trace (boardIn x) calls (x .out .ending)
   logs : x .log ≡ logAlong b₀ log₀ calls
 
@@ -133,63 +133,66 @@ takes : (b : Board) (c : Call) → numberIn (answerAt b c) ≡ 0 → number (say
 unfolding says number
 takes b c e = e
 
-logs-on : (b₀ : Board) (log₀ : List ℕ) (b : Board) (c : Call) (count : ℕ) (log : List ℕ) (cs : List Call) → count ≡ length cs → b ≡ boardAfterCalls b₀ cs → log ≡ logAlong b₀ log₀ cs
+logs-on : (b₀ : Board) (log₀ : List ℕ) (b : Board) (c : Call) (count : ℕ) (log : List ℕ) (cs : List Call) → count ≡ length cs → b ≡ boardAfter b₀ (map call cs) → log ≡ logAlong b₀ log₀ cs
     → logged log count (answerAt b c) (interruptUp (leaves b (call c) .state .irq)) ≡ logAlong b₀ log₀ (c ∷ cs)
 unfolding logAlong
 logs-on b₀ log₀ b c count log cs q k g = rw (q, k, g)
 
-module _ (l : Load) (hs : List Made) (b₀ : Board) (trace log₀ : List ℕ) where
-  stopped-at : (b : Board) (at : ℕ) (log : List ℕ) (cs : List Call) (c : Call) (next : ℕ) (why : Refusal) → Records trace cs at → Reached l (map call cs ++ hs) b → log ≡ logAlong b₀ log₀ cs
-      → recordAt trace at ≡ Record c next → answerAt b c ≡ Refused why → Walked l hs b₀ trace log₀ (ended (Stopped at why) (b .state) (b .mem) log)
+module _ (b₀ : Board) (o₀ : Opened b₀) (trace log₀ : List ℕ) where
+  stopped-at : (b : Board) (at : ℕ) (log : List ℕ) (cs : List Call) (c : Call) (next : ℕ) (why : Refusal) → Records trace cs at → Leads b₀ (map call cs) b → log ≡ logAlong b₀ log₀ cs
+      → recordAt trace at ≡ Record c next → answerAt b c ≡ Refused why → Walked b₀ trace log₀ (ended (Stopped at why) (b .state) (b .mem) log)
   stopped-at b at log cs c next why r h g e a =
       let n = said-so b c why a in
       record {
         calls = cs;
         records = r;
-        history = h;
-        ends = refused at why c next e (says-so b c why a) (six-or-seven b c why (sym n ∙ exactly b (call c) (open-along l h))) (refusals .gives-back b (call c) (λ z. no-zero why (sym n ∙ z)));
+        leads = h;
+        ends = refused at why c next e (says-so b c why a) (six-or-seven b c why (sym n ∙ exactly b (call c) (open-on o₀ h))) (refusals .gives-back b (call c) (λ z. no-zero why (sym n ∙ z)));
         logs = g;
       }
 
-  walk : (n at count : ℕ) (log : List ℕ) (cs : List Call) (b : Board) → length trace < n + at → count ≡ length cs → Records trace cs at → Reached l (map call cs ++ hs) b
-      → b ≡ boardAfterCalls b₀ cs → log ≡ logAlong b₀ log₀ cs → Walked l hs b₀ trace log₀ (playedFrom n trace at count (b .state) (b .mem) log)
-  unfolding playedFrom boardAfterCalls leaves
+  walk : (n at count : ℕ) (log : List ℕ) (cs : List Call) (b : Board) → length trace < n + at → count ≡ length cs → Records trace cs at → Leads b₀ (map call cs) b
+      → b ≡ boardAfter b₀ (map call cs) → log ≡ logAlong b₀ log₀ cs → Walked b₀ trace log₀ (playedFrom n trace at count (b .state) (b .mem) log)
+  unfolding playedFrom boardAfter leaves
   walk zero at count log cs b f q r h k g = absurd (omega (arith, f, inside trace r .0))
   walk (suc n) at count log cs b f q r h k g =
-      found-case (Walked l hs b₀ trace log₀) (recordAt trace at) _ _ _
-      (λ e. record { calls = cs; records = rw (← at-end trace at (inside trace r .0) e) r; history = h; ends = rw q counted; logs = g })
-      (λ why e. record { calls = cs; records = r; history = h; ends = unreadable at why e (nine-or-ten trace at why e); logs = g })
+      found-case (Walked b₀ trace log₀) (recordAt trace at) _ _ _
+      (λ e. record { calls = cs; records = rw (← at-end trace at (inside trace r .0) e) r; leads = h; ends = rw q counted; logs = g })
+      (λ why e. record { calls = cs; records = r; leads = h; ends = unreadable at why e (nine-or-ten trace at why e); logs = g })
       (λ c next e. let o = record-advances trace at c next e in
-      answered-case (Walked l hs b₀ trace log₀) (answerAt b c) _ _
+      answered-case (Walked b₀ trace log₀) (answerAt b c) _ _
       (λ why a. stopped-at b at log cs c next why r h g e a)
       (λ z. walk n next (count + 1) _ (c ∷ cs) (leaves b (call c)) (omega (arith, f, o .0)) (omega (arith, q)) (one-more c next r e)
       (taken (call c) h (record { accepted = takes b c z; left = refl }))
       (ap (λ (x : Board). leaves x (call c)) k)
       (logs-on b₀ log₀ b c count log cs q k g)))
 
-  fits : (x : Left) → Walked l hs b₀ trace log₀ x → Plays l hs b₀ trace log₀ x
+  fits : (x : Left) → Walked b₀ trace log₀ x → Plays b₀ trace log₀ x
   fits x w =
       let p : w .calls ≡ playedCalls trace (x .out .ending) = are-before trace (endOf trace (x .out .ending)) (w .calls) (w .records) in
       record {
         records = subst (λ (cs : List Call). Records trace cs (endOf trace (x .out .ending))) p (w .records);
-        history = subst (λ (cs : List Call). Reached l (map call cs ++ hs) (boardIn x)) p (w .history);
+        calls = subst (λ (cs : List Call). Leads b₀ (map call cs) (boardIn x)) p (w .leads);
         ends = subst (λ (cs : List Call). Ends trace (boardIn x) cs (x .out .ending)) p (w .ends);
         logs = subst (λ (cs : List Call). x .log ≡ logAlong b₀ log₀ cs) p (w .logs);
       }
 
-  starts : Reached l hs b₀ → Plays l hs b₀ trace log₀ (played (b₀ .state) trace (b₀ .mem) log₀)
-  unfolding boardAfterCalls logAlong
-  starts h = fits _ (walk (length trace + 1) 0 0 log₀ [] b₀ (omega arith) refl none h refl refl)
+  starts : Plays b₀ trace log₀ (played (b₀ .state) trace (b₀ .mem) log₀)
+  unfolding boardAfter logAlong
+  starts = fits _ (walk (length trace + 1) 0 0 log₀ [] b₀ (omega arith) refl none at-load refl refl)
 
-  pub from-there : Reached l hs b₀ → length trace ≤ 8192 → Plays l hs b₀ trace log₀ (replayOf b₀ trace log₀)
+  pub from-there : length trace ≤ 8192 → Plays b₀ trace log₀ (replayOf b₀ trace log₀)
   unfolding replayed
-  from-there h s = rw (le-ltb 8192 (length trace) s, open-along l h) (starts h)
+  from-there s = rw (le-ltb 8192 (length trace) s, o₀) starts
 
-pub from-load : (l : Load) (trace log : List ℕ) → length trace ≤ 8192
-    → Reached l (map call (playedCalls trace (replayOf (first l) trace log .out .ending))) (boardIn (replayOf (first l) trace log))
-from-load l trace log s =
-    subst (λ (cs : List Made). Reached l cs (boardIn (replayOf (first l) trace log))) (append-nil (map call (playedCalls trace (replayOf (first l) trace log .out .ending))))
-    (from-there l [] (first l) trace log at-load s .history)
+-- Calls that go on with a history.
+goes-on : (l : Load) {hs cs : List Made} {a b : Board} → Reached l hs a → Leads a cs b → Reached l (cs ++ hs) b
+goes-on l r at-load = r
+goes-on l r (taken c p t) = taken c (goes-on l r p) t
+
+pub from-history : (l : Load) (hs : List Made) (b : Board) → Reached l hs b → (trace log : List ℕ) → length trace ≤ 8192
+    → Reached l (map call (playedCalls trace (replayOf b trace log .out .ending)) ++ hs) (boardIn (replayOf b trace log))
+from-history l hs b r trace log s = goes-on l r (from-there b (open-along l r) trace log s .calls)
 
 pub too-long : (b : Board) (trace log : List ℕ) → 8192 < length trace → replayOf b trace log ≡ ended (Stopped 0 Length) (b .state) (b .mem) log
 unfolding replayed

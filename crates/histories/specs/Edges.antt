@@ -1,7 +1,8 @@
--- 01, "Examples at the edges": "Cases marked P are proved as one list under one statement". Each case is a history of the board from load, and
--- what is then seen. The lists are `edges` and, for the boards that 01 shuts out by name, `shutOut`; below them what is promised of both.
+-- The cases of 01, "Examples at the edges", that are marked P. 01, "What each contract settles": "Cases marked P are proved as one list under one
+-- statement". Each case is a history of the board from load, and what is then seen. The lists are `edges` and, for the boards that 01 shuts out
+-- by name, `shutOut`; below them what is promised of both.
 -- Assumes nothing.
-use Prim.Native.Nat.{ℕ, _*_}
+use Prim.Native.Nat.{ℕ, zero, suc, _*_}
 use mathlib.Core.Bool.{Bool, true, false, _&&_}
 use mathlib.Core.Path.{_≡_}
 use mathlib.Core.List.{List, [], _∷_, _++_, map}
@@ -15,22 +16,21 @@ use Rattle.memory.specs.Words.{pick, pageOf}
 use Rattle.answers.specs.declared.Answer.{Answer}
 use Rattle.answers.specs.Letters.{letterOf, valueOf}
 use Rattle.registers.specs.declared.Mirroring.the-variants.{Horizontal}
-use Rattle.split.specs.Region.{splitAddress}
 use Rattle.board.specs.CpuSide.{cpuRead}
 use Rattle.board.specs.Loads.{loadCall}
 use Rattle.board_ppu.specs.Peeks.{chrWordAt}
-use Rattle.histories.specs.Boards.{Board, Made, says, leaves, number, numberIn}
+use Rattle.histories.specs.Boards.{Board, Made, says, leaves, boardAfter, number, numberIn}
 use Rattle.histories.specs.Histories.{Load, Reached}
 use Rattle.histories.specs.Shorthand.{read, write, tell, fetch, clock}
 
 -- Where a case looks: at what a CPU read answers from a register (letter `R`) or from a page (`M`), at a byte of ExRAM, at the number of the CHR
--- page that a place of the CHR table shows, or, with no board, at the address that module 8 gives for a scroll and a column.
+-- page that a place of the CHR table shows, or at the split's tile address.
 pub data Sight : Type 0 where
   reads : (a : ℕ) → Sight
   reads-page : (a : ℕ) → Sight
   holds : (i : ℕ) → Sight
   maps : (place : ℕ) → Sight
-  gives : (scroll column : ℕ) → Sight
+  tile-address : Sight
 
 -- A cartridge by the lengths of PRG-ROM, CHR (as ROM) and PRG-RAM; the calls in the order in which they are made; where the case
 -- then looks, and the value that is seen.
@@ -52,14 +52,18 @@ start c = record { state = loadCall (lent c) false Horizontal .state; mem = lent
 unfoldable pub loadAccepted : Case → Bool
 loadAccepted c = eqb (numberIn (loadCall (lent c) false Horizontal .answer)) 0
 
--- Each call is accepted, as the call before it left the board; and what the last leaves.
+-- Each call is accepted, as the call before it left the board.
 unfoldable pub accepted : Board → List Made → Bool
 accepted b [] = true
 accepted b (c ∷ cs) = eqb (number (says b c)) 0 && accepted (leaves b c) cs
 
-unfoldable pub after : Board → List Made → Board
-after b [] = b
-after b (c ∷ cs) = after (leaves b c) cs
+-- The calls of a case, the newest first, on top of others; and the board that they leave.
+unfoldable pub onto : List Made → List Made → List Made
+onto [] hs = hs
+onto (c ∷ cs) hs = onto cs (c ∷ hs)
+
+abbrev pub end : Case → Board
+end c = boardAfter (start c) (onto (c .calls) [])
 
 -- The value of an answer with a letter, and the number of a CHR page.
 abbrev pub lettered : ℕ → Answer → Option ℕ
@@ -78,14 +82,24 @@ seen b (reads a) = lettered 0x52 (cpuRead (b .state) (b .mem) a .answer)
 seen b (reads-page a) = lettered 0x4D (cpuRead (b .state) (b .mem) a .answer)
 seen b (holds i) = some (getD (b .mem .exram) i 0)
 seen b (maps place) = chrPage (pageOf (chrWordAt (b .state .«chr_pages») (place * 1024)) .src) (pageOf (chrWordAt (b .state .«chr_pages») (place * 1024)) .index)
-seen b (gives scroll column) = some (splitAddress scroll column)
+seen b tile-address = some (b .state .vsplit .«tile_addr»)
 
 -- What a case comes to: none, if its load or a call is refused.
 unfoldable pub comes : Case → Option ℕ
-comes c = pick (loadAccepted c && accepted (start c) (c .calls)) (seen (after (start c) (c .calls)) (c .sight)) none
+comes c = pick (loadAccepted c && accepted (start c) (c .calls)) (seen (end c) (c .sight)) none
 
 abbrev pub threeFetches : List Made
 threeFetches = fetch 0x2000 ∷ fetch 0x2000 ∷ fetch 0x2000 ∷ []
+
+-- n fetches of two addresses in turn.
+unfoldable pub inTurn : ℕ → ℕ → ℕ → List Made
+inTurn zero a a' = []
+inTurn (suc n) a a' = fetch a ∷ inTurn n a' a
+
+-- Nametable use, split at tile 3, scroll 239; then line 0 and n name fetches, the last at column n + 2. The region is clear after load, and
+-- column 3 flips it.
+abbrev pub scrolled : ℕ → List Made
+scrolled n = write 0x5104 0 ∷ write 0x5200 0x83 ∷ write 0x5201 239 ∷ (threeFetches ++ inTurn n 0x2001 0x2002)
 
 -- A case over a cartridge with PRG-ROM 8,192, CHR 8,192 and no PRG-RAM; over one with another PRG-ROM.
 abbrev pub overPrg : ℕ → List Made → Sight → ℕ → Case
@@ -119,8 +133,8 @@ edges =
     ∷ case (tell 0x2000 0x20 ∷ write 0x5128 6 ∷ []) (maps 0) 6
     ∷ case (tell 0x2000 0x20 ∷ write 0x5128 6 ∷ []) (maps 4) 6
     -- "scroll 239: column 31 gives 959, column 32 gives 928."
-    ∷ case [] (gives 239 31) 959
-    ∷ case [] (gives 239 32) 928
+    ∷ case (scrolled 29) tile-address 959
+    ∷ case (scrolled 30) tile-address 928
     ∷ []
 
 -- 01, "What each contract settles": "Shut out by name: a board that refuses every call (demand 2), gives one fixed byte (2), stores nothing (2), or
@@ -153,16 +167,11 @@ Edges = Hold edges
 abbrev pub ShutOut : Type 0
 ShutOut = Hold shutOut
 
--- The calls of a case, the newest first, on top of others.
-unfoldable pub onto : List Made → List Made → List Made
-onto [] hs = hs
-onto (c ∷ cs) hs = onto cs (c ∷ hs)
-
 -- A case that comes to something is a history: its load is accepted, and its calls lead from there to the board at which it looks.
 pub record Lived (c : Case) : Type 0 where
   pub load : Load
   pub lends : load .mem ≡ lent c
-  pub calls : Reached load (onto (c .calls) []) (after (start c) (c .calls))
+  pub calls : Reached load (onto (c .calls) []) (end c)
 
 abbrev pub CasesAreHistories : Type 0
 CasesAreHistories = (c : Case) (v : ℕ) → comes c ≡ some v → Lived c

@@ -31,11 +31,15 @@ pub record Takes (b : Board) (c : Made) (b' : Board) : Type 0 where
   pub accepted : number (says b c) ≡ 0
   pub left : b' ≡ leaves b c
 
--- The calls cs, the newest first, were accepted one after the other from the load on, and left b: "each takes the state and the memories as the
--- call before it left them". `Played` (crate `lines`, specs/Promise.antt) is the chain: no calls leave `first l`; where cs leave b and `Takes b c b'`,
--- the calls `c ∷ cs` leave b'.
+-- The calls cs, the newest first, are accepted one after the other from a on, and leave b: "each takes the state and the memories as the call
+-- before it left them". `Played` (crate `lines`, specs/Promise.antt) is the chain: no calls leave a; where cs leave b and `Takes b c b'`, the
+-- calls `c ∷ cs` leave b'.
+abbrev pub Leads : Board → List Made → Board → Type 0
+Leads a cs b = Played Board Made a Takes cs b
+
+-- The same from a load on: a history.
 abbrev pub Reached : Load → List Made → Board → Type 0
-Reached l cs b = Played Board Made (first l) Takes cs b
+Reached l cs b = Leads (first l) cs b
 
 -- Where the scanline detector lies in a board, and what it can tell of a call: demand 3 speaks of these alone (crate `lines`).
 abbrev pub view : Board → Detector

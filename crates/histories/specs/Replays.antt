@@ -16,7 +16,7 @@ use Rattle.answers.specs.declared.Refusal.the-variants.{Length}
 use Rattle.answers.specs.Letters.{valueOf}
 use Rattle.answers.specs.Numbers.{numberOf}
 use Rattle.scanline.specs.Steps.{interruptUp}
-use Rattle.state.specs.declared.gate.Gate.the-variants.{Shut}
+use Rattle.state.specs.declared.gate.Gate.the-variants.{Open, Shut}
 use Rattle.state.specs.Gate.{gateMem}
 use Rattle.trace.specs.declared.Call.{Call}
 use Rattle.trace.specs.declared.Found.the-variants.{Record, Refused as Unreadable}
@@ -26,10 +26,10 @@ use Rattle.player.specs.declared.Ending.{Ending}
 use Rattle.player.specs.declared.Ending.the-variants.{Done, Stopped}
 use Rattle.logs.specs.Logs.{logLetter, logged}
 use Rattle.player.specs.Replay.{Left, ended, found, replayed}
-use Rattle.histories.specs.Boards.{Board, Made, says, leaves}
+use Rattle.histories.specs.Boards.{Board, Made, says, leaves, boardAfter}
 use Rattle.histories.specs.Boards.Made.{call}
 use Rattle.histories.specs.Boards.Said.{answers}
-use Rattle.histories.specs.Histories.{Load, first, Reached}
+use Rattle.histories.specs.Histories.{Load, Leads, Reached}
 
 -- Which calls a replay makes, by the trace and the ending alone ---------------------------------------------------------------------------
 
@@ -65,21 +65,18 @@ pub data Ends (trace : List ℕ) (b : Board) (cs : List Call) : Ending → Type 
 
 -- What it logs ----------------------------------------------------------------------------------------------------------------------------
 
--- The board after calls from b on, what a call then answers, and whether the interrupt is up after it.
-unfoldable pub boardAfterCalls : Board → List Call → Board
-boardAfterCalls b [] = b
-boardAfterCalls b (c ∷ cs) = leaves (boardAfterCalls b cs) (call c)
-
+-- What a call answers at b, and its letter in the log, which also tells whether the interrupt is up after it.
 abbrev pub answerAt : Board → Call → Answer
 answerAt b c = called c (b .state) (b .mem) .out .answer
 
 abbrev pub letterAt : Board → Call → ℕ
 letterAt b c = logLetter (answerAt b c) (interruptUp (leaves b (call c) .state .irq))
 
+-- The log after calls from b on.
 unfoldable pub logAlong : Board → List ℕ → List Call → List ℕ
 logAlong b log [] = log
 logAlong b log (c ∷ cs) =
-    let b' = boardAfterCalls b cs in
+    let b' = boardAfter b (map call cs) in
     logged (logAlong b log cs) (length cs) (answerAt b' c) (interruptUp (leaves b' (call c) .state .irq))
 
 -- The promise -----------------------------------------------------------------------------------------------------------------------------
@@ -88,12 +85,12 @@ logAlong b log (c ∷ cs) =
 abbrev pub boardIn : Left → Board
 boardIn x = record { state = x .out .state; mem = x .mem }
 
--- A replay from b, which the calls hs led to, leaves x.
-pub record Plays (l : Load) (hs : List Made) (b : Board) (trace log : List ℕ) (x : Left) : Type 0 where
+-- A replay from b leaves x.
+pub record Plays (b : Board) (trace log : List ℕ) (x : Left) : Type 0 where
   -- its calls are the trace's records, none left out, up to where it ends
   pub records : Records trace (playedCalls trace (x .out .ending)) (endOf trace (x .out .ending))
   -- they are accepted calls, "each takes the state and the memories as the call before it left them", and leave what the replay leaves
-  pub history : Reached l (map call (playedCalls trace (x .out .ending)) ++ hs) (boardIn x)
+  pub calls : Leads b (map call (playedCalls trace (x .out .ending))) (boardIn x)
   pub ends : Ends trace (boardIn x) (playedCalls trace (x .out .ending)) (x .out .ending)
   pub logs : x .log ≡ logAlong b log (playedCalls trace (x .out .ending))
 
@@ -101,21 +98,21 @@ abbrev pub replayOf : Board → List ℕ → List ℕ → Left
 replayOf b trace log = replayed (b .state) trace (b .mem) log
 
 pub record Replays : Type 0 where
-  -- from an accepted load on
-  pub from-load : (l : Load) (trace log : List ℕ) → length trace ≤ 8192
-      → Reached l (map call (playedCalls trace (replayOf (first l) trace log .out .ending))) (boardIn (replayOf (first l) trace log))
-  -- and from every history on, so that traces may be played one after the other; 4 and 5 are never given (`Ends`)
+  -- demand 1, "in replay that is said of the refused record": from every board with an open gate on, reached or not; 4 and 5 are then never given (`Ends`)
+  pub from-open : (b : Board) → gateMem (b .state) (b .mem) ≡ Open → (trace log : List ℕ) → length trace ≤ 8192 → Plays b trace log (replayOf b trace log)
+  -- from load, and from every history on (its gate is open: `gate` of specs/Accepted.antt), the history goes on with the calls that are played, so
+  -- that traces may be played one after the other
   pub from-history : (l : Load) (hs : List Made) (b : Board) → Reached l hs b → (trace log : List ℕ) → length trace ≤ 8192
-      → Plays l hs b trace log (replayOf b trace log)
-  -- 11: "trace longer than 8,192 bytes", at place 0, and nothing changes; given for no other trace (`Ends`)
+      → Reached l (map call (playedCalls trace (replayOf b trace log .out .ending)) ++ hs) (boardIn (replayOf b trace log))
+  -- 11: "trace longer than 8,192 bytes", at place 0, and nothing changes; given for no other trace (`Ends`, `shut`)
   pub too-long : (s : Board) (trace log : List ℕ) → 8192 < length trace → replayOf s trace log ≡ ended (Stopped 0 Length) (s .state) (s .mem) log
   -- 4 and 5, "at place 0 before any record, in an empty trace too": where the gate is shut, its refusal (crate `state`, specs/Gate.antt), and nothing changes
   pub shut : (s : Board) (trace log : List ℕ) (why : Refusal) → length trace ≤ 8192 → gateMem (s .state) (s .mem) ≡ Shut why
       → replayOf s trace log ≡ ended (Stopped 0 why) (s .state) (s .mem) log
   -- bytes 2 i and 2 i + 1 of the log tell of record i, where the log has them: after the earlier calls came c, and then the later ones
   pub letter-logged : (b : Board) (log : List ℕ) (later : List Call) (c : Call) (earlier : List Call) → 2 * length earlier < length log
-      → getD (logAlong b log (later ++ (c ∷ earlier))) (2 * length earlier) 0 ≡ letterAt (boardAfterCalls b earlier) c
+      → getD (logAlong b log (later ++ (c ∷ earlier))) (2 * length earlier) 0 ≡ letterAt (boardAfter b (map call earlier)) c
   pub value-logged : (b : Board) (log : List ℕ) (later : List Call) (c : Call) (earlier : List Call) → 2 * length earlier + 1 < length log
-      → getD (logAlong b log (later ++ (c ∷ earlier))) (2 * length earlier + 1) 0 ≡ valueOf (answerAt (boardAfterCalls b earlier) c)
+      → getD (logAlong b log (later ++ (c ∷ earlier))) (2 * length earlier + 1) 0 ≡ valueOf (answerAt (boardAfter b (map call earlier)) c)
   -- and the log's other bytes stay
   pub others-kept : (b : Board) (log : List ℕ) (cs : List Call) (i : ℕ) → 2 * length cs ≤ i → getD (logAlong b log cs) i 0 ≡ getD log i 0

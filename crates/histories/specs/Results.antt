@@ -6,7 +6,7 @@
 use mathlib.Core.Path.{_≡_}
 use mathlib.Core.Bool.{true}
 use mathlib.Core.List.{List, [], _∷_}
-use Rattle.histories.specs.Boards.{Board, Made, Said, says, leaves, number}
+use Rattle.histories.specs.Boards.{Board, Made, Said, says, leaves, boardAfter, number}
 use Rattle.histories.specs.Histories.{Load, first, Reached}
 use Rattle.histories.specs.Accepted.{acceptable}
 
@@ -17,24 +17,20 @@ pub data Heard (l : Load) : List Made → List Said → Board → Type 0 where
   next : {cs : List Made} {said : List Said} {b : Board} (c : Made) (a : Said) (b' : Board)
       → Heard l cs said b → a ≡ says b c → b' ≡ leaves b c → number a ≡ 0 → Heard l (c ∷ cs) (a ∷ said) b'
 
--- The definitions, one after the other: the board after the calls, and what they said.
-unfoldable pub boardAfter : Load → List Made → Board
-boardAfter l [] = first l
-boardAfter l (c ∷ cs) = leaves (boardAfter l cs) c
-
+-- The definitions, one after the other: what the calls say, each at the board that the calls before it leave.
 unfoldable pub saidAlong : Load → List Made → List Said
 saidAlong l [] = []
-saidAlong l (c ∷ cs) = says (boardAfter l cs) c ∷ saidAlong l cs
+saidAlong l (c ∷ cs) = says (boardAfter (first l) cs) c ∷ saidAlong l cs
 
 pub record OneResult : Type 0 where
   -- state (the page tables in it) and memory, and all answers, are the definitions'
-  pub board : (l : Load) (cs : List Made) (said : List Said) (b : Board) → Heard l cs said b → b ≡ boardAfter l cs
+  pub board : (l : Load) (cs : List Made) (said : List Said) (b : Board) → Heard l cs said b → b ≡ boardAfter (first l) cs
   pub answers : (l : Load) (cs : List Made) (said : List Said) (b : Board) → Heard l cs said b → said ≡ saidAlong l cs
   -- so two boards with the same load and the same calls are alike in all
   pub same-board : (l : Load) (cs : List Made) (said said' : List Said) (b b' : Board) → Heard l cs said b → Heard l cs said' b' → b ≡ b'
   pub same-answers : (l : Load) (cs : List Made) (said said' : List Said) (b b' : Board) → Heard l cs said b → Heard l cs said' b' → said ≡ said'
   -- and calls that meet no refusal have a result
-  pub some-result : (l : Load) (cs : List Made) → acceptable cs ≡ true → Heard l cs (saidAlong l cs) (boardAfter l cs)
+  pub some-result : (l : Load) (cs : List Made) → acceptable cs ≡ true → Heard l cs (saidAlong l cs) (boardAfter (first l) cs)
   -- these are the histories of demand 3
   pub is-reached : (l : Load) (cs : List Made) (said : List Said) (b : Board) → Heard l cs said b → Reached l cs b
   pub is-heard : (l : Load) (cs : List Made) (b : Board) → Reached l cs b → Heard l cs (saidAlong l cs) b
