@@ -3,5 +3,6 @@ pub mod Pages
 pub mod Overs
 pub mod Counting
 pub mod Telling
+pub mod Bounds
 pub mod WorkedLines
 pub mod Transcribed

@@ -23,6 +23,7 @@ use Rattle.player.specs.Replay.{Left, playedFrom, replayed}
 use Rattle.transcript.specs.Cartridge.{fromLoad, printedOver, transcript}
 use Rattle.transcript.specs.Printed.{printedFrom, printed}
 use Rattle.transcript.specs.Told.{toldFrom, TranscriptIsTold}
+use Rattle.transcript.proofs.Bounds.{enough}
 use Rattle.transcript.proofs.Telling.{printed-is-told}
 use Rattle.transcript.proofs.WorkedLines.{worked-lines}
 
@@ -63,4 +64,4 @@ told trace h =
     ∙ printed-is-told (suc (length trace)) trace 0 0 (loadCall cartridge false Horizontal .state) cartridge (replicate 16384 0) (omega arith) (omega (arith, h, length-replicate {A = ℕ} 16384 0)))
 
 pub transcript-is-told : TranscriptIsTold
-transcript-is-told = record { loads = loads; too-long = too-long; told = told; worked-example = told worked (omega arith) ∙ worked-lines }
+transcript-is-told = record { loads = loads; too-long = too-long; told = told; enough = enough; worked-example = told worked (omega arith) ∙ worked-lines }
