@@ -24,7 +24,7 @@ found-same End done stop p q e = refl
 found-same (Unreadable why) done stop p q e = refl
 found-same (Record call next) done stop p q e = e call next refl
 
-same-rest : (k j : ℕ) (trace : List ℕ) (at n : ℕ) (s : State) (m : Mem) → 0 < k → 0 < j → length trace < k + at → length trace < j + at
+pub same-rest : (k j : ℕ) (trace : List ℕ) (at n : ℕ) (s : State) (m : Mem) → 0 < k → 0 < j → length trace < k + at → length trace < j + at
     → toldFrom k trace at n s m ≡ toldFrom j trace at n s m
 unfolding toldFrom
 same-rest zero j trace at n s m p q e h = absurd (omega (arith, p))
@@ -34,6 +34,3 @@ same-rest (suc k) (suc j) trace at n s m p q e h =
     (λ call next r. let o = record-advances trace at call next r in
     ap (λ (rest : List ℕ). answered (called call s m .out .answer) (λ (why : Refusal). refusedLine n (kindOf call) why) (acceptedLine n (kindOf call) (called call s m .out .answer) (interruptUp (called call s m .out .state .irq)) ++ rest))
     (same-rest k j trace next (n + 1) (called call s m .out .state) (called call s m .mem) (omega (arith, e, o .0, o .1)) (omega (arith, h, o .0, o .1)) (omega (arith, e, o .0)) (omega (arith, h, o .0))))
-
-pub enough : (k : ℕ) (trace : List ℕ) (at n : ℕ) (s : State) (m : Mem) → length trace < k → toldFrom k trace at n s m ≡ toldFrom (suc (length trace)) trace at n s m
-enough k trace at n s m h = same-rest k (suc (length trace)) trace at n s m (omega (arith, h)) (omega arith) (omega (arith, h)) (omega arith)
