@@ -1,12 +1,14 @@
 -- What the program prints, from the load of 01's cartridge on, is what the definitions tell.
-use Prim.Native.Nat.{ℕ, suc, _+_, _*_, _<_, _≤_}
+use Prim.Native.Nat.{ℕ, suc, _*_, _<_, _≤_}
 use mathlib.Core.Bool.{true, false}
 use mathlib.Core.List.{List}
 use mathlib.Core.Path.{_≡_, refl, ap, _∙_}
 use native.Mathlib.Numerals.{add-one}
 use native.Mathlib.Omega.{arith}
-use borrow.Author.Tests.{lt-ltb, le-ltb}
+use borrow.Author.Tests.{lt-ltb, le-ltb, ltb-true, ltb-false}
+use lib.Dec.{ltb}
 use lib.ListN.{length, replicate, length-replicate}
+use Rattle.memory.proofs.Tests.{split}
 use Rattle.answers.specs.declared.Answer.the-variants.{Nothing}
 use Rattle.registers.specs.declared.Mirroring.the-variants.{Horizontal}
 use Rattle.state.specs.declared.gate.Gate.the-variants.{Open}
@@ -23,7 +25,10 @@ use Rattle.player.specs.Replay.{Left, playedFrom, replayed}
 use Rattle.transcript.specs.Cartridge.{fromLoad, printedOver, transcript}
 use Rattle.transcript.specs.Printed.{printedFrom, printed}
 use Rattle.transcript.specs.Told.{toldFrom, TranscriptIsTold}
+use Rattle.transcript.proofs.SmallLoad.{cartridge-small, load-small}
 use Rattle.transcript.proofs.Telling.{printed-is-told}
+use Rattle.transcript.proofs.ToldEnough.{same-rest}
+use Rattle.transcript.proofs.ToldShort.{too-long-short, told-short}
 use Rattle.transcript.proofs.WorkedLines.{worked-lines}
 
 -- The load -----------------------------------------------------------------------------------------------------------------------------------
@@ -62,5 +67,28 @@ told trace h =
     (ap (λ (l : Left). printedFrom (suc (length trace)) trace 0 0 (l .log) (l .out .ending)) (plays trace (replicate 16384 0) h)
     ∙ printed-is-told (suc (length trace)) trace 0 0 (loadCall cartridge false Horizontal .state) cartridge (replicate 16384 0) (omega arith) (omega (arith, h, length-replicate {A = ℕ} 16384 0)))
 
+-- The text finds room wherever that many lines do.
+room : (most : ℕ) → 15 * 8193 ≤ most → (trace : List ℕ) → length (transcript trace) ≤ most
+room most r trace =
+    split (ltb 8192 (length trace))
+    (λ t. omega (arith, r, ap (λ (l : List ℕ). length l) (too-long trace (ltb-true 8192 (length trace) t)), too-long-short))
+    (λ t.
+    let h : length trace ≤ 8192 = ltb-false 8192 (length trace) t in
+    omega (
+      arith,
+      r,
+      h,
+      ap (λ (l : List ℕ). length l) (told trace h),
+      told-short (suc (length trace)) trace 0 0 (loadCall cartridge false Horizontal .state) cartridge h (omega arith) (omega arith) (load-small cartridge) cartridge-small,
+    ))
+
 pub transcript-is-told : TranscriptIsTold
-transcript-is-told = record { loads = loads; too-long = too-long; told = told; worked-example = told worked (omega arith) ∙ worked-lines }
+transcript-is-told =
+    record {
+      loads = loads;
+      too-long = too-long;
+      told = told;
+      enough = λ k trace at n s m h. same-rest k (suc (length trace)) trace at n s m (omega (arith, h)) (omega arith) (omega (arith, h)) (omega arith);
+      room = room _ (omega arith);
+      worked-example = told worked (omega arith) ∙ worked-lines;
+    }

@@ -51,5 +51,9 @@ pub record TranscriptIsTold : Type 0 where
   -- every other trace prints a line for each record, from the load on, and the line that ends it; a trace has no more records than bytes
   pub told : (trace : List ℕ) → length trace ≤ 8192
       → transcript trace ≡ toldFrom (suc (length trace)) trace 0 0 (loadCall cartridge false Horizontal .state) cartridge
+  -- so many lines are enough, from every place on: allowed more, it prints the same
+  pub enough : (k : ℕ) (trace : List ℕ) (at n : ℕ) (s : State) (m : Mem) → length trace < k → toldFrom k trace at n s m ≡ toldFrom (suc (length trace)) trace at n s m
+  -- the program lends 131,072 bytes for the text (crate `replay`): every transcript finds room, so that no byte of it is dropped
+  pub room : (trace : List ℕ) → length (transcript trace) ≤ 131072
   -- 01's worked input prints 01's lines
   pub worked-example : transcript worked ≡ workedLines
