@@ -2,7 +2,7 @@
 // `transcript` (crate transcript, specs/Cartridge.antt); what is said of standard input and output is the C library's.
 // `stdin` and `stdout` are 01's worked example.
 
-// A trace of 8,192 bytes prints at most 15 bytes a record, and its end.
+// The text finds room: `TranscriptIsTold.room`, crates/transcript/specs/Told.antt.
 fn main() {
     let mut input = io::large_buffer();
     let mut out = [0u8; 131072];
