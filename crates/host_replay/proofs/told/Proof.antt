@@ -5,32 +5,14 @@ use borrow.Author.Needs.{needs}
 use Rattle.host_replay.proofs.told.Statement.{statement}
 use Rattle.host_replay.proofs.told.Tie as tie
 
-enum-known-ending : tie.Need-enum-known-ending
-enum-known-ending c = search needs
-
 cast-result : tie.Need-cast-result
 cast-result c = omega (arith, done-short _ _ (c .before .ending .given .1) (c .before .before .before .pre))
-
-enum-known-ending-2 : tie.Need-enum-known-ending-2
-enum-known-ending-2 c = search needs
-
-number-of-requires : tie.Need-number-of-requires
-number-of-requires c κs = search needs
-
-cast-result-2 : tie.Need-cast-result-2
-cast-result-2 c = search needs
-
-mul-result : tie.Need-mul-result
-mul-result c = search needs
 
 cast-result-3 : tie.Need-cast-result-3
 cast-result-3 c = omega (arith, stopped-short _ _ _ (c .before .before .ending2 .given .1) (c .before .before .before .before .pre))
 
 add-result : tie.Need-add-result
 add-result c = omega (arith, stopped-short _ _ _ (c .before .before .ending2 .given .1) (c .before .before .before .before .pre))
-
-returns : tie.Need-returns
-returns c = search needs
 
 returns-2 : tie.Need-returns-2
 returns-2 c = rw (c .number-of .ensures, c .before .before .ending2 .given .1)
@@ -39,13 +21,5 @@ pub told-spec : {M : Type 1} → statement M
 told-spec =
     tie.close
     (tie.spec
-    enum-known-ending
-    cast-result
-    enum-known-ending-2
-    number-of-requires
-    cast-result-2
-    mul-result
-    cast-result-3
-    add-result
-    returns
-    returns-2)
+    (λ c. search needs) cast-result (λ c. search needs) (λ c κs. search needs) (λ c. search needs) (λ c. search needs) cast-result-3
+    add-result (λ c. search needs) returns-2)

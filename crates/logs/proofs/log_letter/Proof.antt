@@ -5,9 +5,6 @@ use borrow.Author.Needs.{needs}
 use Rattle.logs.proofs.log_letter.Statement.{statement}
 use Rattle.logs.proofs.log_letter.Tie as tie
 
-letter-of-requires : tie.Need-letter-of-requires
-letter-of-requires c κs = search needs
-
 add-result : tie.Need-add-result
 add-result c = rw (c .before .letter-of .ensures) (omega (arith, letter-small (c .before .before .args .answer)))
 
@@ -18,4 +15,4 @@ returns-2 : tie.Need-returns-2
 returns-2 c = rw (c .if1 .left, c .before .letter-of .ensures)
 
 pub log-letter-spec : {M : Type 1} → statement M
-log-letter-spec = tie.close (tie.spec letter-of-requires add-result returns returns-2)
+log-letter-spec = tie.close (tie.spec (λ c κs. search needs) add-result returns returns-2)

@@ -4,9 +4,6 @@ use borrow.Author.Tests.{eq-eqb, ne-eqb}
 use Rattle.registers.proofs.mirroring_after.Statement.{statement}
 use Rattle.registers.proofs.mirroring_after.Tie as tie
 
-mirroring-of-requires : tie.Need-mirroring-of-requires
-mirroring-of-requires c κs = search needs
-
 returns : tie.Need-returns
 returns c = rw (eq-eqb _ _ (c .before .if1 .taken)) (c .mirroring-of .ensures)
 
@@ -14,4 +11,4 @@ returns-2 : tie.Need-returns-2
 returns-2 c = rw (ne-eqb _ _ (c .if1 .left))
 
 pub mirroring-after-spec : {M : Type 1} → statement M
-mirroring-after-spec = tie.close (tie.spec mirroring-of-requires returns returns-2)
+mirroring-after-spec = tie.close (tie.spec (λ c κs. search needs) returns returns-2)

@@ -5,15 +5,6 @@ use Rattle.registers.specs.Registers.{written}
 use Rattle.registers.proofs.write.Statement.{statement}
 use Rattle.registers.proofs.write.Tie as tie
 
-chr-mode-for-requires : tie.Need-chr-mode-for-requires
-chr-mode-for-requires c κs = search needs
-
-cast-next : tie.Need-cast-next
-cast-next c = search needs
-
-mul-next : tie.Need-mul-next
-mul-next c = search needs
-
 returns : tie.Need-returns
 unfolding written
 returns c = rw (c .match .keys1)
@@ -66,18 +57,5 @@ pub write-spec : {M : Type 1} → statement M
 write-spec =
     tie.close
     (tie.spec
-    chr-mode-for-requires
-    cast-next
-    mul-next
-    returns
-    returns-2
-    returns-3
-    returns-4
-    returns-5
-    returns-6
-    returns-7
-    returns-8
-    returns-9
-    returns-10
-    returns-11
-    returns-12)
+    (λ c κs. search needs) (λ c. search needs) (λ c. search needs) returns returns-2 returns-3 returns-4 returns-5 returns-6 returns-7
+    returns-8 returns-9 returns-10 returns-11 returns-12)

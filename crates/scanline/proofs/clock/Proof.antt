@@ -4,9 +4,6 @@ use Rattle.scanline.specs.Clock.{tick}
 use Rattle.scanline.proofs.clock.Statement.{statement}
 use Rattle.scanline.proofs.clock.Tie as tie
 
-of-requires : tie.Need-of-requires
-of-requires c κs = search needs
-
 ticked-requires : tie.Need-ticked-requires
 ticked-requires c κs = rw (c .of .ensures) (c .before .pre)
 
@@ -15,4 +12,4 @@ unfolding tick
 returns c = rw (c .ticked .ensures, c .before .of .ensures)
 
 pub clock-spec : {M : Type 1} → statement M
-clock-spec = tie.close (tie.spec of-requires ticked-requires returns)
+clock-spec = tie.close (tie.spec (λ c κs. search needs) ticked-requires returns)

@@ -4,11 +4,8 @@ use Rattle.scanline.proofs.StepLaws.{line-over}
 use Rattle.scanline.proofs.line_refused.Statement.{statement}
 use Rattle.scanline.proofs.line_refused.Tie as tie
 
-matched-requires : tie.Need-matched-requires
-matched-requires c κs = search needs
-
 returns : tie.Need-returns
 returns c = line-over _ _ _ (c .before .before .matched .ensures)
 
 pub line-refused-spec : {M : Type 1} → statement M
-line-refused-spec = tie.close (tie.spec matched-requires returns)
+line-refused-spec = tie.close (tie.spec (λ c κs. search needs) returns)

@@ -22,12 +22,9 @@ returns-4 : tie.Need-returns-4
 unfolding matchesAfter again
 returns-4 c = simp (le-leb (c .before .before .before .before .before .before .before .args .addr) 0x2FFF (omega (arith, c .before .before .before .before .before .before .if1 .left)), not-false (c .before .before .before .before .before .before .before .args .d .«prev_some») (c .before .before .before .before .if2 .left), eq-eqb _ _ (c .before .before .if3 .left)) (omega arith)
 
-add-result : tie.Need-add-result
-add-result c = search needs
-
 returns-5 : tie.Need-returns-5
 unfolding matchesAfter again
 returns-5 c = simp (le-leb (c .before .before .before .before .before .before .before .before .args .addr) 0x2FFF (omega (arith, c .before .before .before .before .before .before .before .if1 .left)), not-false (c .before .before .before .before .before .before .before .before .args .d .«prev_some») (c .before .before .before .before .before .if2 .left), eq-eqb _ _ (c .before .before .before .if3 .left)) (omega arith)
 
 pub matched-spec : {M : Type 1} → statement M
-matched-spec = tie.close (tie.spec returns returns-2 returns-3 returns-4 add-result returns-5)
+matched-spec = tie.close (tie.spec returns returns-2 returns-3 returns-4 (λ c. search needs) returns-5)

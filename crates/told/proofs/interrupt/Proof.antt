@@ -3,18 +3,6 @@ use borrow.Author.Needs.{needs}
 use Rattle.told.proofs.interrupt.Statement.{statement}
 use Rattle.told.proofs.interrupt.Tie as tie
 
-enum-told : tie.Need-enum-told
-enum-told c = search needs
-
-enum-told-2 : tie.Need-enum-told-2
-enum-told-2 c = search needs
-
-enum-known-told : tie.Need-enum-known-told
-enum-known-told c = search needs
-
-plain-requires : tie.Need-plain-requires
-plain-requires c κs = search needs
-
 returns : tie.Need-returns
 returns c = rw (c .enum-told .given .1)
 
@@ -27,4 +15,4 @@ returns-3 c = rw (c .plain .ensures, c .before .before .told .given .1)
 pub interrupt-spec : {M : Type 1} → statement M
 interrupt-spec =
     tie.close
-    (tie.spec enum-told enum-told-2 enum-known-told plain-requires returns returns-2 returns-3)
+    (tie.spec (λ c. search needs) (λ c. search needs) (λ c. search needs) (λ c κs. search needs) returns returns-2 returns-3)

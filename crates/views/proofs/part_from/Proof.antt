@@ -10,27 +10,6 @@ use Rattle.views.specs.Views.{partFrom}
 use Rattle.views.proofs.part_from.Statement.{statement}
 use Rattle.views.proofs.part_from.Tie as tie
 
-sub-if2 : tie.Need-sub-if2
-sub-if2 c = search needs
-
-add-result : tie.Need-add-result
-add-result c = search needs
-
-sub-result : tie.Need-sub-result
-sub-result c = search needs
-
-part-result-start : tie.Need-part-result-start
-part-result-start c = search needs
-
-part-result-end : tie.Need-part-result-end
-part-result-end c = search needs
-
-slice-aggregate-result : tie.Need-slice-aggregate-result
-slice-aggregate-result c = search needs
-
-slice-aggregate-result-2 : tie.Need-slice-aggregate-result-2
-slice-aggregate-result-2 c = search needs
-
 returns : tie.Need-returns
 unfolding partFrom
 returns c =
@@ -49,13 +28,5 @@ pub part-from-spec : {M : Type 1} → statement M
 part-from-spec =
     tie.close
     (tie.spec
-    sub-if2
-    add-result
-    sub-result
-    part-result-start
-    part-result-end
-    slice-aggregate-result
-    slice-aggregate-result-2
-    returns
-    returns-2
-    returns-3)
+    (λ c. search needs) (λ c. search needs) (λ c. search needs) (λ c. search needs) (λ c. search needs) (λ c. search needs)
+    (λ c. search needs) returns returns-2 returns-3)

@@ -5,9 +5,6 @@ use borrow.Author.Needs.{needs}
 use Rattle.arms.proofs.cpu_side.exram_word.Statement.{statement}
 use Rattle.arms.proofs.cpu_side.exram_word.Tie as tie
 
-exram-page-requires : tie.Need-exram-page-requires
-exram-page-requires c κs = search needs
-
 returns : tie.Need-returns
 unfolding exramWord
 returns c = rw (eq-eqb _ _ (c .before .if1 .taken)) (c .exram-page .ensures)
@@ -17,4 +14,4 @@ unfolding exramWord
 returns-2 c = rw (ne-eqb _ _ (c .if1 .left))
 
 pub exram-word-spec : {M : Type 1} → statement M
-exram-word-spec = tie.close (tie.spec exram-page-requires returns returns-2)
+exram-word-spec = tie.close (tie.spec (λ c κs. search needs) returns returns-2)

@@ -5,15 +5,6 @@ use borrow.Author.Needs.{needs}
 use Rattle.arms.proofs.cpu_side.read.Statement.{statement}
 use Rattle.arms.proofs.cpu_side.read.Tie as tie
 
-page-answer-requires : tie.Need-page-answer-requires
-page-answer-requires c κs = search needs
-
-is-within-requires : tie.Need-is-within-requires
-is-within-requires c κs = search needs
-
-register-or-requires : tie.Need-register-or-requires
-register-or-requires c κs = search needs
-
 returns : tie.Need-returns
 returns c = rw (← c .before .before .before .page-answer .ensures) (c .register-or .ensures)
 
@@ -23,4 +14,4 @@ returns-2 c = rw (read-idle _ (sym (c .before .is-within .ensures) ∙ c .if1 .l
 pub read-spec : {M : Type 1} → statement M
 read-spec =
     tie.close
-    (tie.spec page-answer-requires is-within-requires register-or-requires returns returns-2)
+    (tie.spec (λ c κs. search needs) (λ c κs. search needs) (λ c κs. search needs) returns returns-2)

@@ -5,9 +5,6 @@ use borrow.Author.Needs.{needs}
 use Rattle.arms.proofs.ppu_side.chosen_at.Statement.{statement}
 use Rattle.arms.proofs.ppu_side.chosen_at.Tie as tie
 
-choose-requires : tie.Need-choose-requires
-choose-requires c κs = search needs
-
 returns : tie.Need-returns
 unfolding chosenAt
 returns c = rw (lt-ltb _ _ (c .before .if1 .taken)) (c .choose .ensures)
@@ -17,4 +14,4 @@ unfolding chosenAt
 returns-2 c = rw (le-ltb _ _ (c .if1 .left))
 
 pub chosen-at-spec : {M : Type 1} → statement M
-chosen-at-spec = tie.close (tie.spec choose-requires returns returns-2)
+chosen-at-spec = tie.close (tie.spec (λ c κs. search needs) returns returns-2)

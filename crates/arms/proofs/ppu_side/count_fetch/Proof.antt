@@ -9,9 +9,6 @@ use Rattle.arms.proofs.ppu_side.count_fetch.Tie as tie
 seen-requires : tie.Need-seen-requires
 seen-requires c κs = ranges-kept .line-fits _ (c .pre .0)
 
-ppu-seen-requires : tie.Need-ppu-seen-requires
-ppu-seen-requires c κs = search needs
-
 split-seen-requires : tie.Need-split-seen-requires
 unfolding ppuSeen seenAt
 split-seen-requires c κs = rw (c .ppu-seen .ensures, c .before .seen .ensures) (ranges-kept .tiles _ _ _ (c .before .before .pre .1 .1 .0) (c .before .before .pre .1 .1 .1) (c .before .before .pre .1 .0))
@@ -20,4 +17,4 @@ returns : tie.Need-returns
 returns c = (c .before .before .seen .ensures, (rw (← c .before .before .seen .ensures) (c .before .ppu-seen .ensures), rw (← c .before .before .seen .ensures, ← c .before .ppu-seen .ensures) (c .split-seen .ensures)))
 
 pub count-fetch-spec : {M : Type 1} → statement M
-count-fetch-spec = tie.close (tie.spec seen-requires ppu-seen-requires split-seen-requires returns)
+count-fetch-spec = tie.close (tie.spec seen-requires (λ c κs. search needs) split-seen-requires returns)

@@ -3,14 +3,8 @@ use borrow.Author.Needs.{needs}
 use Rattle.arms.proofs.ppu_side.counted_answer.Statement.{statement}
 use Rattle.arms.proofs.ppu_side.counted_answer.Tie as tie
 
-page-answer-requires : tie.Need-page-answer-requires
-page-answer-requires c κs = search needs
-
-counted-served-requires : tie.Need-counted-served-requires
-counted-served-requires c κs = search needs
-
 returns : tie.Need-returns
 returns c = rw (← c .before .page-answer .ensures) (c .counted-served .ensures)
 
 pub counted-answer-spec : {M : Type 1} → statement M
-counted-answer-spec = tie.close (tie.spec page-answer-requires counted-served-requires returns)
+counted-answer-spec = tie.close (tie.spec (λ c κs. search needs) (λ c κs. search needs) returns)

@@ -4,12 +4,6 @@ use borrow.Author.Needs.{needs}
 use Rattle.arms.proofs.ppu_side.other_answer.Statement.{statement}
 use Rattle.arms.proofs.ppu_side.other_answer.Tie as tie
 
-page-answer-requires : tie.Need-page-answer-requires
-page-answer-requires c κs = search needs
-
-pattern-served-requires : tie.Need-pattern-served-requires
-pattern-served-requires c κs = search needs
-
 returns : tie.Need-returns
 returns c = rw (lt-ltb _ _ (c .before .if1 .taken), ← c .before .before .page-answer .ensures) (c .pattern-served .ensures)
 
@@ -18,4 +12,4 @@ returns-2 c = rw (le-ltb _ _ (c .if1 .left)) (c .before .page-answer .ensures)
 
 pub other-answer-spec : {M : Type 1} → statement M
 other-answer-spec =
-    tie.close (tie.spec page-answer-requires pattern-served-requires returns returns-2)
+    tie.close (tie.spec (λ c κs. search needs) (λ c κs. search needs) returns returns-2)

@@ -20,24 +20,6 @@ abbrev μ-loop : tie.MeasureT-loop
 loop-holds : tie.Need-loop-holds Inv-loop μ-loop
 loop-holds c = (search needs, placed-none _ _ _)
 
-chr-number-requires : tie.Need-chr-number-requires Inv-loop μ-loop
-chr-number-requires c κs = search needs
-
-chr-window-requires : tie.Need-chr-window-requires Inv-loop μ-loop
-chr-window-requires c κs = search needs
-
-mul-next : tie.Need-mul-next Inv-loop μ-loop
-mul-next c = search needs
-
-array-set-from-next : tie.Need-array-set-from-next Inv-loop μ-loop
-array-set-from-next c = search needs
-
-add-k : tie.Need-add-k Inv-loop μ-loop
-add-k c = search needs
-
-loop-less : tie.Need-loop-less Inv-loop μ-loop
-loop-less c = search needs
-
 loop-again : tie.Need-loop-again Inv-loop μ-loop
 loop-again c = (search needs, placed-next-first _ _ _ _ _ (c .before .before .before .loop .inv .1) (rw (← c .before .chr-number .ensures) (c .chr-window .ensures)))
 
@@ -49,14 +31,5 @@ pub map-chr-spec : {M : Type 1} → statement M
 map-chr-spec =
     tie.close
     (tie.spec
-    Inv-loop
-    μ-loop
-    loop-holds
-    chr-number-requires
-    chr-window-requires
-    mul-next
-    array-set-from-next
-    add-k
-    loop-less
-    loop-again
-    returns)
+    Inv-loop μ-loop loop-holds (λ c κs. search needs) (λ c κs. search needs) (λ c. search needs) (λ c. search needs) (λ c. search needs)
+    (λ c. search needs) loop-again returns)

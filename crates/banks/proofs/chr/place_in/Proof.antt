@@ -6,15 +6,6 @@ use Rattle.banks.specs.Chr.{windowPages}
 use Rattle.banks.proofs.chr.place_in.Statement.{statement}
 use Rattle.banks.proofs.chr.place_in.Tie as tie
 
-cast-result : tie.Need-cast-result
-cast-result c = search needs
-
-cast-result-2 : tie.Need-cast-result-2
-cast-result-2 c = search needs
-
-cast-result-3 : tie.Need-cast-result-3
-cast-result-3 c = search needs
-
 returns : tie.Need-returns
 unfolding windowPages
 returns c = rw (c .match .keys1) (omega arith)
@@ -34,4 +25,4 @@ returns-4 c = simp (ne-eqb _ _ (c .match .rest .0 .0 .1), ne-eqb _ _ (c .match .
 pub place-in-spec : {M : Type 1} → statement M
 place-in-spec =
     tie.close
-    (tie.spec cast-result cast-result-2 cast-result-3 returns returns-2 returns-3 returns-4)
+    (tie.spec (λ c. search needs) (λ c. search needs) (λ c. search needs) returns returns-2 returns-3 returns-4)

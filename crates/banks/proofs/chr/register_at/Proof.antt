@@ -6,18 +6,6 @@ use Rattle.banks.specs.Chr.{windowPages}
 use Rattle.banks.proofs.chr.register_at.Statement.{statement}
 use Rattle.banks.proofs.chr.register_at.Tie as tie
 
-mul-result : tie.Need-mul-result
-mul-result c = search needs
-
-add-result : tie.Need-add-result
-add-result c = search needs
-
-mul-result-2 : tie.Need-mul-result-2
-mul-result-2 c = search needs
-
-add-result-2 : tie.Need-add-result-2
-add-result-2 c = search needs
-
 returns : tie.Need-returns
 unfolding windowPages
 returns c = rw (c .match .keys1) (omega arith)
@@ -38,11 +26,4 @@ pub register-at-spec : {M : Type 1} → statement M
 register-at-spec =
     tie.close
     (tie.spec
-    mul-result
-    add-result
-    mul-result-2
-    add-result-2
-    returns
-    returns-2
-    returns-3
-    returns-4)
+    (λ c. search needs) (λ c. search needs) (λ c. search needs) (λ c. search needs) returns returns-2 returns-3 returns-4)

@@ -18,30 +18,6 @@ abbrev μ-loop : tie.MeasureT-loop
 loop-holds : tie.Need-loop-holds Inv-loop μ-loop
 loop-holds c = (search needs, placed-none _ _ _)
 
-selector-of-requires : tie.Need-selector-of-requires Inv-loop μ-loop
-selector-of-requires c κs = search needs
-
-name-page-requires : tie.Need-name-page-requires Inv-loop μ-loop
-name-page-requires c κs = search needs
-
-cast-next : tie.Need-cast-next Inv-loop μ-loop
-cast-next c = search needs
-
-add-next : tie.Need-add-next Inv-loop μ-loop
-add-next c = search needs
-
-mul-next : tie.Need-mul-next Inv-loop μ-loop
-mul-next c = search needs
-
-array-set-from-next : tie.Need-array-set-from-next Inv-loop μ-loop
-array-set-from-next c = search needs
-
-add-k : tie.Need-add-k Inv-loop μ-loop
-add-k c = search needs
-
-loop-less : tie.Need-loop-less Inv-loop μ-loop
-loop-less c = search needs
-
 loop-again : tie.Need-loop-again Inv-loop μ-loop
 loop-again c = (search needs, placed-next _ _ 8 _ _ _ (c .before .before .before .loop .inv .1) (rw (← c .before .selector-of .ensures) (c .name-page .ensures)))
 
@@ -53,16 +29,5 @@ pub map-names-spec : {M : Type 1} → statement M
 map-names-spec =
     tie.close
     (tie.spec
-    Inv-loop
-    μ-loop
-    loop-holds
-    selector-of-requires
-    name-page-requires
-    cast-next
-    add-next
-    mul-next
-    array-set-from-next
-    add-k
-    loop-less
-    loop-again
-    returns)
+    Inv-loop μ-loop loop-holds (λ c κs. search needs) (λ c κs. search needs) (λ c. search needs) (λ c. search needs) (λ c. search needs)
+    (λ c. search needs) (λ c. search needs) (λ c. search needs) loop-again returns)

@@ -6,15 +6,6 @@ use Rattle.memory.specs.Words.{wordNumber}
 use Rattle.banks.proofs.names.name_page.Statement.{statement}
 use Rattle.banks.proofs.names.name_page.Tie as tie
 
-word-of-requires : tie.Need-word-of-requires
-word-of-requires c κs = search needs
-
-word-of-requires-2 : tie.Need-word-of-requires-2
-word-of-requires-2 c κs = search needs
-
-word-of-requires-3 : tie.Need-word-of-requires-3
-word-of-requires-3 c κs = search needs
-
 returns : tie.Need-returns
 unfolding namePage
 returns c = rw (c .before .match .keys1) (c .word-of .ensures)
@@ -39,11 +30,4 @@ pub name-page-spec : {M : Type 1} → statement M
 name-page-spec =
     tie.close
     (tie.spec
-    word-of-requires
-    word-of-requires-2
-    word-of-requires-3
-    returns
-    returns-2
-    returns-3
-    returns-4
-    returns-5)
+    (λ c κs. search needs) (λ c κs. search needs) (λ c κs. search needs) returns returns-2 returns-3 returns-4 returns-5)

@@ -10,12 +10,9 @@ returns : tie.Need-returns
 unfolding exramPage wordNumber
 returns c = rw (lt-ltb _ _ (c .if1 .taken))
 
-word-of-requires : tie.Need-word-of-requires
-word-of-requires c κs = search needs
-
 returns-2 : tie.Need-returns-2
 unfolding exramPage
 returns-2 c = rw (le-ltb _ _ (c .before .if1 .left)) (c .word-of .ensures)
 
 pub exram-page-spec : {M : Type 1} → statement M
-exram-page-spec = tie.close (tie.spec returns word-of-requires returns-2)
+exram-page-spec = tie.close (tie.spec returns (λ c κs. search needs) returns-2)

@@ -8,12 +8,6 @@ use Rattle.state.proofs.RangeLaws.{ranged}
 use Rattle.board.proofs.clocks.clock.Statement.{statement}
 use Rattle.board.proofs.clocks.clock.Tie as tie
 
-in-range-requires : tie.Need-in-range-requires
-in-range-requires c κs = search needs
-
-refuse-requires : tie.Need-refuse-requires
-refuse-requires c κs = search needs
-
 returns : tie.Need-returns
 unfolding clockCall
 returns c = rw (← c .before .before .in-range .ensures, c .before .if1 .taken) (c .refuse .ensures)
@@ -27,4 +21,4 @@ returns-2 c = rw (← c .before .before .before .in-range .ensures, c .before .b
 
 pub clock-spec : {M : Type 1} → statement M
 clock-spec =
-    tie.close (tie.spec in-range-requires refuse-requires returns clock-requires returns-2)
+    tie.close (tie.spec (λ c κs. search needs) (λ c κs. search needs) returns clock-requires returns-2)

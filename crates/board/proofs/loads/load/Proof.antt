@@ -10,31 +10,13 @@ use Rattle.state.proofs.SizeLaws.{lengths-hold}
 use Rattle.board.proofs.loads.load.Statement.{statement}
 use Rattle.board.proofs.loads.load.Tie as tie
 
-prg-taken-requires : tie.Need-prg-taken-requires
-prg-taken-requires c κs = search needs
-
-refuse-load-requires : tie.Need-refuse-load-requires
-refuse-load-requires c κs = search needs
-
 returns : tie.Need-returns
 unfolding loadCall
 returns c = rw (← c .before .before .prg-taken .ensures, c .before .if1 .taken) (c .refuse-load .ensures)
 
-chr-taken-requires : tie.Need-chr-taken-requires
-chr-taken-requires c κs = search needs
-
-refuse-load-requires-2 : tie.Need-refuse-load-requires-2
-refuse-load-requires-2 c κs = search needs
-
 returns-2 : tie.Need-returns-2
 unfolding loadCall
 returns-2 c = rw (← c .before .before .before .before .prg-taken .ensures, c .before .before .before .if1 .left, ← c .before .before .chr-taken .ensures, c .before .if2 .taken) (c .refuse-load2 .ensures)
-
-ram-taken-requires : tie.Need-ram-taken-requires
-ram-taken-requires c κs = search needs
-
-refuse-load-requires-3 : tie.Need-refuse-load-requires-3
-refuse-load-requires-3 c κs = search needs
 
 returns-3 : tie.Need-returns-3
 unfolding loadCall
@@ -66,19 +48,5 @@ pub load-spec : {M : Type 1} → statement M
 load-spec =
     tie.close
     (tie.spec
-    prg-taken-requires
-    refuse-load-requires
-    returns
-    chr-taken-requires
-    refuse-load-requires-2
-    returns-2
-    ram-taken-requires
-    refuse-load-requires-3
-    returns-3
-    cast-t17
-    cast-t18
-    cast-t19
-    cast-t21
-    cast-t23
-    loaded-requires
-    returns-4)
+    (λ c κs. search needs) (λ c κs. search needs) returns (λ c κs. search needs) (λ c κs. search needs) returns-2 (λ c κs. search needs)
+    (λ c κs. search needs) returns-3 cast-t17 cast-t18 cast-t19 cast-t21 cast-t23 loaded-requires returns-4)

@@ -4,9 +4,6 @@ use borrow.Author.Needs.{needs}
 use Rattle.board.proofs.ppu_registers.detector_told.Statement.{statement}
 use Rattle.board.proofs.ppu_registers.detector_told.Tie as tie
 
-darkened-requires : tie.Need-darkened-requires
-darkened-requires c κs = search needs
-
 returns : tie.Need-returns
 unfolding detectorTold
 returns c = rw (c .before .if1 .taken) (c .darkened .ensures)
@@ -16,4 +13,4 @@ unfolding detectorTold
 returns-2 c = rw (c .if1 .left)
 
 pub detector-told-spec : {M : Type 1} → statement M
-detector-told-spec = tie.close (tie.spec darkened-requires returns returns-2)
+detector-told-spec = tie.close (tie.spec (λ c κs. search needs) returns returns-2)

@@ -4,21 +4,9 @@ use borrow.Author.Needs.{needs}
 use Rattle.board.proofs.ppu_registers.ppu_register.Statement.{statement}
 use Rattle.board.proofs.ppu_registers.ppu_register.Tie as tie
 
-in-range-requires : tie.Need-in-range-requires
-in-range-requires c κs = search needs
-
-refuse-requires : tie.Need-refuse-requires
-refuse-requires c κs = search needs
-
 returns : tie.Need-returns
 unfolding ppuRegisterCall
 returns c = rw (← c .before .before .in-range .ensures, c .before .if1 .taken) (c .refuse .ensures)
-
-status-told-requires : tie.Need-status-told-requires
-status-told-requires c κs = search needs
-
-detector-told-requires : tie.Need-detector-told-requires
-detector-told-requires c κs = search needs
 
 returns-2 : tie.Need-returns-2
 unfolding ppuRegisterCall
@@ -28,9 +16,4 @@ pub ppu-register-spec : {M : Type 1} → statement M
 ppu-register-spec =
     tie.close
     (tie.spec
-    in-range-requires
-    refuse-requires
-    returns
-    status-told-requires
-    detector-told-requires
-    returns-2)
+    (λ c κs. search needs) (λ c κs. search needs) returns (λ c κs. search needs) (λ c κs. search needs) returns-2)

@@ -4,15 +4,9 @@ use Rattle.board.specs.Whole.{interruptCall}
 use Rattle.board.proofs.whole.interrupt_up.Statement.{statement}
 use Rattle.board.proofs.whole.interrupt_up.Tie as tie
 
-in-range-requires : tie.Need-in-range-requires
-in-range-requires c κs = search needs
-
 returns : tie.Need-returns
 unfolding interruptCall
 returns c = rw (← c .before .in-range .ensures, c .if1 .taken)
-
-interrupt-up-requires : tie.Need-interrupt-up-requires
-interrupt-up-requires c κs = search needs
 
 returns-2 : tie.Need-returns-2
 unfolding interruptCall
@@ -24,4 +18,4 @@ returns-3 c = rw (← c .before .before .before .in-range .ensures, c .before .b
 
 pub interrupt-up-spec : {M : Type 1} → statement M
 interrupt-up-spec =
-    tie.close (tie.spec in-range-requires returns interrupt-up-requires returns-2 returns-3)
+    tie.close (tie.spec (λ c κs. search needs) returns (λ c κs. search needs) returns-2 returns-3)

@@ -4,9 +4,6 @@ use Rattle.board.specs.Whole.{mirroringCall}
 use Rattle.board.proofs.whole.mirroring.Statement.{statement}
 use Rattle.board.proofs.whole.mirroring.Tie as tie
 
-in-range-requires : tie.Need-in-range-requires
-in-range-requires c κs = search needs
-
 returns : tie.Need-returns
 unfolding mirroringCall
 returns c = rw (← c .before .in-range .ensures, c .if1 .taken)
@@ -16,4 +13,4 @@ unfolding mirroringCall
 returns-2 c = rw (← c .before .before .in-range .ensures, c .before .if1 .left)
 
 pub mirroring-spec : {M : Type 1} → statement M
-mirroring-spec = tie.close (tie.spec in-range-requires returns returns-2)
+mirroring-spec = tie.close (tie.spec (λ c κs. search needs) returns returns-2)

@@ -4,12 +4,6 @@ use Rattle.board.specs.Whole.{resetCall}
 use Rattle.board.proofs.whole.reset.Statement.{statement}
 use Rattle.board.proofs.whole.reset.Tie as tie
 
-in-range-requires : tie.Need-in-range-requires
-in-range-requires c κs = search needs
-
-refuse-requires : tie.Need-refuse-requires
-refuse-requires c κs = search needs
-
 returns : tie.Need-returns
 unfolding resetCall
 returns c = rw (← c .before .before .in-range .ensures, c .before .if1 .taken) (c .refuse .ensures)
@@ -19,4 +13,4 @@ unfolding resetCall
 returns-2 c = rw (← c .before .before .before .in-range .ensures, c .before .before .if1 .left)
 
 pub reset-spec : {M : Type 1} → statement M
-reset-spec = tie.close (tie.spec in-range-requires refuse-requires returns returns-2)
+reset-spec = tie.close (tie.spec (λ c κs. search needs) (λ c κs. search needs) returns returns-2)

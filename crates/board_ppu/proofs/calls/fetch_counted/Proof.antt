@@ -18,27 +18,9 @@ split-seen-requires : tie.Need-split-seen-requires
 unfolding ppuSeen seenAt
 split-seen-requires c κs = rw (c .ppu-seen .ensures, c .before .seen .ensures) (ranges-kept .tiles _ _ _ (c .before .before .before .before .before .before .before .before .pre .1 .0) (c .before .before .before .before .before .before .before .before .pre .1 .1) (ranged _ (c .before .before .before .before .before .before .before .before .pre .0) .tiles))
 
-nametable-use-requires : tie.Need-nametable-use-requires
-nametable-use-requires c κs = search needs
-
-active-requires : tie.Need-active-requires
-active-requires c κs = search needs
-
-address-refused-requires : tie.Need-address-refused-requires
-address-refused-requires c κs = search needs
-
-refuse-requires : tie.Need-refuse-requires
-refuse-requires c κs = search needs
-
 returns : tie.Need-returns
 unfolding countedCall
 returns c = rw (← c .before .before .before .before .before .before .before .before .seen .ensures, ← c .before .before .before .before .before .before .before .ppu-seen .ensures, ← c .before .before .before .before .before .before .split-seen .ensures, ← c .before .before .before .before .before .nametable-use .ensures, ← c .before .before .before .before .active .ensures, ← c .before .before .before .address-refused .ensures, c .before .if1 .taken) (c .refuse .ensures)
-
-page-at-requires : tie.Need-page-at-requires
-page-at-requires c κs = search needs
-
-counted-served-requires : tie.Need-counted-served-requires
-counted-served-requires c κs = search needs
 
 returns-2 : tie.Need-returns-2
 unfolding countedCall
@@ -48,14 +30,5 @@ pub fetch-counted-spec : {M : Type 1} → statement M
 fetch-counted-spec =
     tie.close
     (tie.spec
-    seen-requires
-    ppu-seen-requires
-    split-seen-requires
-    nametable-use-requires
-    active-requires
-    address-refused-requires
-    refuse-requires
-    returns
-    page-at-requires
-    counted-served-requires
-    returns-2)
+    seen-requires ppu-seen-requires split-seen-requires (λ c κs. search needs) (λ c κs. search needs) (λ c κs. search needs)
+    (λ c κs. search needs) returns (λ c κs. search needs) (λ c κs. search needs) returns-2)

@@ -4,12 +4,6 @@ use Rattle.board_ppu.specs.Fetch.{patternPages}
 use Rattle.board_ppu.proofs.calls.pattern_pages.Statement.{statement}
 use Rattle.board_ppu.proofs.calls.pattern_pages.Tie as tie
 
-set-changed-requires : tie.Need-set-changed-requires
-set-changed-requires c κs = search needs
-
-map-chr-requires : tie.Need-map-chr-requires
-map-chr-requires c κs = search needs
-
 returns : tie.Need-returns
 unfolding patternPages
 returns c = rw (← c .before .before .before .before .set-changed .ensures, c .before .before .before .if1 .taken) (c .map-chr .ensures)
@@ -19,4 +13,4 @@ unfolding patternPages
 returns-2 c = rw (← c .before .set-changed .ensures, c .if1 .left)
 
 pub pattern-pages-spec : {M : Type 1} → statement M
-pattern-pages-spec = tie.close (tie.spec set-changed-requires map-chr-requires returns returns-2)
+pattern-pages-spec = tie.close (tie.spec (λ c κs. search needs) (λ c κs. search needs) returns returns-2)

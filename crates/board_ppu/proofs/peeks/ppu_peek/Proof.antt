@@ -5,34 +5,13 @@ use Rattle.board_ppu.specs.Peeks.{ppuPeek}
 use Rattle.board_ppu.proofs.peeks.ppu_peek.Statement.{statement}
 use Rattle.board_ppu.proofs.peeks.ppu_peek.Tie as tie
 
-passed-requires : tie.Need-passed-requires
-passed-requires c κs = search needs
-
-enum-known-gate : tie.Need-enum-known-gate
-enum-known-gate c = search needs
-
 returns : tie.Need-returns
 unfolding ppuPeek
 returns c = rw (← c .before .before .before .passed .ensures, c .before .gate .given .1)
 
-enum-told : tie.Need-enum-told
-enum-told c = search needs
-
-page-at-requires : tie.Need-page-at-requires
-page-at-requires c κs = search needs
-
-counted-requires : tie.Need-counted-requires
-counted-requires c κs = search needs
-
-counted-served-requires : tie.Need-counted-served-requires
-counted-served-requires c κs = search needs
-
 returns-2 : tie.Need-returns-2
 unfolding ppuPeek
 returns-2 c = rw (← c .before .before .before .before .before .before .before .passed .ensures, c .before .before .before .before .before .enum-told .given .1, ← c .before .before .counted .ensures, c .before .if1 .taken, ← c .before .before .before .page-at .ensures) (c .counted-served .ensures)
-
-pattern-served-requires : tie.Need-pattern-served-requires
-pattern-served-requires c κs = search needs
 
 returns-3 : tie.Need-returns-3
 unfolding ppuPeek
@@ -46,14 +25,5 @@ pub ppu-peek-spec : {M : Type 1} → statement M
 ppu-peek-spec =
     tie.close
     (tie.spec
-    passed-requires
-    enum-known-gate
-    returns
-    enum-told
-    page-at-requires
-    counted-requires
-    counted-served-requires
-    returns-2
-    pattern-served-requires
-    returns-3
-    returns-4)
+    (λ c κs. search needs) (λ c. search needs) returns (λ c. search needs) (λ c κs. search needs) (λ c κs. search needs)
+    (λ c κs. search needs) returns-2 (λ c κs. search needs) returns-3 returns-4)

@@ -5,28 +5,13 @@ use Rattle.cpu.specs.Chosen.{ppuAfter}
 use Rattle.cpu.proofs.chosen.ppu_after.Statement.{statement}
 use Rattle.cpu.proofs.chosen.ppu_after.Tie as tie
 
-choose-requires : tie.Need-choose-requires
-choose-requires c κs = search needs
-
 returns : tie.Need-returns
 unfolding ppuAfter
 returns c = rw (eq-eqb _ _ (c .before .if1 .taken)) (c .choose .ensures)
 
-is-within-requires : tie.Need-is-within-requires
-is-within-requires c κs = search needs
-
-choose-requires-2 : tie.Need-choose-requires-2
-choose-requires-2 c κs = search needs
-
 returns-2 : tie.Need-returns-2
 unfolding ppuAfter
 returns-2 c = rw (ne-eqb _ _ (c .before .before .before .if1 .left), ← c .before .before .is-within .ensures, c .before .if2 .taken) (c .choose2 .ensures)
-
-is-within-requires-2 : tie.Need-is-within-requires-2
-is-within-requires-2 c κs = search needs
-
-choose-requires-3 : tie.Need-choose-requires-3
-choose-requires-3 c κs = search needs
 
 returns-3 : tie.Need-returns-3
 unfolding ppuAfter
@@ -40,12 +25,5 @@ pub ppu-after-spec : {M : Type 1} → statement M
 ppu-after-spec =
     tie.close
     (tie.spec
-    choose-requires
-    returns
-    is-within-requires
-    choose-requires-2
-    returns-2
-    is-within-requires-2
-    choose-requires-3
-    returns-3
-    returns-4)
+    (λ c κs. search needs) returns (λ c κs. search needs) (λ c κs. search needs) returns-2 (λ c κs. search needs) (λ c κs. search needs)
+    returns-3 returns-4)

@@ -8,17 +8,11 @@ use Rattle.cpu.proofs.Addresses.{from, upto}
 use Rattle.cpu.proofs.groups.chr_banks_after.Statement.{statement}
 use Rattle.cpu.proofs.groups.chr_banks_after.Tie as tie
 
-is-within-requires : tie.Need-is-within-requires
-is-within-requires c κs = search needs
-
 sub-at : tie.Need-sub-at
 sub-at c =
     let lo : 0x5120 ≤ c .before .before .args .addr = from 0x5120 0x5127 _ (sym (c .before .is-within .ensures) ∙ c .if1 .taken) in
     let hi : c .before .before .args .addr ≤ 0x5127 = upto 0x5120 0x5127 _ (sym (c .before .is-within .ensures) ∙ c .if1 .taken) in
     omega arith
-
-cast-at : tie.Need-cast-at
-cast-at c = search needs
 
 array-write-next : tie.Need-array-write-next
 array-write-next c =
@@ -30,26 +24,17 @@ returns : tie.Need-returns
 unfolding chrBanksAfter
 returns c = rw (← c .before .is-within .ensures, c .if1 .taken)
 
-is-within-requires-2 : tie.Need-is-within-requires-2
-is-within-requires-2 c κs = search needs
-
 sub-at-2 : tie.Need-sub-at-2
 sub-at-2 c =
     let lo : 0x5128 ≤ c .before .before .before .before .args .addr = from 0x5128 0x512B _ (sym (c .before .is-within2 .ensures) ∙ c .if2 .taken) in
     let hi : c .before .before .before .before .args .addr ≤ 0x512B = upto 0x5128 0x512B _ (sym (c .before .is-within2 .ensures) ∙ c .if2 .taken) in
     omega arith
 
-cast-at-2 : tie.Need-cast-at-2
-cast-at-2 c = search needs
-
 array-write-next-2 : tie.Need-array-write-next-2
 array-write-next-2 c =
     let lo : 0x5128 ≤ c .before .before .before .before .args .addr = from 0x5128 0x512B _ (sym (c .before .is-within2 .ensures) ∙ c .if2 .taken) in
     let hi : c .before .before .before .before .args .addr ≤ 0x512B = upto 0x5128 0x512B _ (sym (c .before .is-within2 .ensures) ∙ c .if2 .taken) in
     omega arith
-
-add-next : tie.Need-add-next
-add-next c = search needs
 
 array-write-next-3 : tie.Need-array-write-next-3
 array-write-next-3 c =
@@ -69,16 +54,5 @@ pub chr-banks-after-spec : {M : Type 1} → statement M
 chr-banks-after-spec =
     tie.close
     (tie.spec
-    is-within-requires
-    sub-at
-    cast-at
-    array-write-next
-    returns
-    is-within-requires-2
-    sub-at-2
-    cast-at-2
-    array-write-next-2
-    add-next
-    array-write-next-3
-    returns-2
-    returns-3)
+    (λ c κs. search needs) sub-at (λ c. search needs) array-write-next returns (λ c κs. search needs) sub-at-2 (λ c. search needs)
+    array-write-next-2 (λ c. search needs) array-write-next-3 returns-2 returns-3)

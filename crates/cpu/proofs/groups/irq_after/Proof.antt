@@ -5,12 +5,6 @@ use Rattle.cpu.specs.Groups.{irqAfter}
 use Rattle.cpu.proofs.groups.irq_after.Statement.{statement}
 use Rattle.cpu.proofs.groups.irq_after.Tie as tie
 
-set-target-requires : tie.Need-set-target-requires
-set-target-requires c κs = search needs
-
-set-enabled-requires : tie.Need-set-enabled-requires
-set-enabled-requires c κs = search needs
-
 returns : tie.Need-returns
 unfolding irqAfter
 returns c = rw (c .before .match .keys1) (c .set-target .ensures)
@@ -25,4 +19,4 @@ returns-3 c = simp (ne-eqb _ _ (c .match .rest .0 .1), ne-eqb _ _ (c .match .res
 
 pub irq-after-spec : {M : Type 1} → statement M
 irq-after-spec =
-    tie.close (tie.spec set-target-requires set-enabled-requires returns returns-2 returns-3)
+    tie.close (tie.spec (λ c κs. search needs) (λ c κs. search needs) returns returns-2 returns-3)

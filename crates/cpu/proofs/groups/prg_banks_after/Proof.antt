@@ -8,17 +8,11 @@ use Rattle.cpu.proofs.Addresses.{from, upto}
 use Rattle.cpu.proofs.groups.prg_banks_after.Statement.{statement}
 use Rattle.cpu.proofs.groups.prg_banks_after.Tie as tie
 
-is-within-requires : tie.Need-is-within-requires
-is-within-requires c κs = search needs
-
 sub-at : tie.Need-sub-at
 sub-at c =
     let lo : 0x5113 ≤ c .before .before .args .addr = from 0x5113 0x5117 _ (sym (c .before .is-within .ensures) ∙ c .if1 .taken) in
     let hi : c .before .before .args .addr ≤ 0x5117 = upto 0x5113 0x5117 _ (sym (c .before .is-within .ensures) ∙ c .if1 .taken) in
     omega arith
-
-cast-at : tie.Need-cast-at
-cast-at c = search needs
 
 array-write-next : tie.Need-array-write-next
 array-write-next c =
@@ -36,4 +30,4 @@ returns-2 c = rw (← c .before .is-within .ensures, c .if1 .left)
 
 pub prg-banks-after-spec : {M : Type 1} → statement M
 prg-banks-after-spec =
-    tie.close (tie.spec is-within-requires sub-at cast-at array-write-next returns returns-2)
+    tie.close (tie.spec (λ c κs. search needs) sub-at (λ c. search needs) array-write-next returns returns-2)

@@ -5,15 +5,6 @@ use Rattle.cpu.specs.Groups.{splitAfter}
 use Rattle.cpu.proofs.groups.split_after.Statement.{statement}
 use Rattle.cpu.proofs.groups.split_after.Tie as tie
 
-set-control-requires : tie.Need-set-control-requires
-set-control-requires c κs = search needs
-
-set-scroll-requires : tie.Need-set-scroll-requires
-set-scroll-requires c κs = search needs
-
-set-bank-requires : tie.Need-set-bank-requires
-set-bank-requires c κs = search needs
-
 returns : tie.Need-returns
 unfolding splitAfter
 returns c = rw (c .before .match .keys1) (c .set-control .ensures)
@@ -34,10 +25,4 @@ pub split-after-spec : {M : Type 1} → statement M
 split-after-spec =
     tie.close
     (tie.spec
-    set-control-requires
-    set-scroll-requires
-    set-bank-requires
-    returns
-    returns-2
-    returns-3
-    returns-4)
+    (λ c κs. search needs) (λ c κs. search needs) (λ c κs. search needs) returns returns-2 returns-3 returns-4)

@@ -5,15 +5,6 @@ use Rattle.cpu.specs.Reads.{irqRead}
 use Rattle.cpu.proofs.reads.irq_read.Statement.{statement}
 use Rattle.cpu.proofs.reads.irq_read.Tie as tie
 
-status-read-requires : tie.Need-status-read-requires
-status-read-requires c κs = search needs
-
-vector-read-requires : tie.Need-vector-read-requires
-vector-read-requires c κs = search needs
-
-vector-read-requires-2 : tie.Need-vector-read-requires-2
-vector-read-requires-2 c κs = search needs
-
 returns : tie.Need-returns
 unfolding irqRead
 returns c = rw (c .before .match .keys1) (c .status-read .ensures)
@@ -34,10 +25,4 @@ pub irq-read-spec : {M : Type 1} → statement M
 irq-read-spec =
     tie.close
     (tie.spec
-    status-read-requires
-    vector-read-requires
-    vector-read-requires-2
-    returns
-    returns-2
-    returns-3
-    returns-4)
+    (λ c κs. search needs) (λ c κs. search needs) (λ c κs. search needs) returns returns-2 returns-3 returns-4)

@@ -8,8 +8,5 @@ use Rattle.cpu.proofs.reads.product.Tie as tie
 mul-result : tie.Need-mul-result
 mul-result c = omega (arith, mul-le-mul {n₁ = c .args .a} {m₁ = c .args .b} {n₂ = 255} {m₂ = 255} (omega arith) (omega arith))
 
-returns : tie.Need-returns
-returns c = search needs
-
 pub product-spec : {M : Type 1} → statement M
-product-spec = tie.close (tie.spec mul-result returns)
+product-spec = tie.close (tie.spec mul-result (λ c. search needs))

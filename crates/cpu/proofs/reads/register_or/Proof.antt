@@ -9,17 +9,11 @@ use Rattle.cpu.proofs.Addresses.{from, upto}
 use Rattle.cpu.proofs.reads.register_or.Statement.{statement}
 use Rattle.cpu.proofs.reads.register_or.Tie as tie
 
-is-within-requires : tie.Need-is-within-requires
-is-within-requires c κs = search needs
-
 sub-at : tie.Need-sub-at
 sub-at c =
     let lo : 0x5113 ≤ c .before .before .args .addr = from 0x5113 0x5117 _ (sym (c .before .is-within .ensures) ∙ c .if1 .taken) in
     let hi : c .before .before .args .addr ≤ 0x5117 = upto 0x5113 0x5117 _ (sym (c .before .is-within .ensures) ∙ c .if1 .taken) in
     omega arith
-
-cast-at : tie.Need-cast-at
-cast-at c = search needs
 
 array-read-t16 : tie.Need-array-read-t16
 array-read-t16 c =
@@ -31,17 +25,11 @@ returns : tie.Need-returns
 unfolding registerRead
 returns c = rw (← c .before .is-within .ensures, c .if1 .taken)
 
-is-within-requires-2 : tie.Need-is-within-requires-2
-is-within-requires-2 c κs = search needs
-
 sub-at-2 : tie.Need-sub-at-2
 sub-at-2 c =
     let lo : 0x5120 ≤ c .before .before .before .before .args .addr = from 0x5120 0x512B _ (sym (c .before .is-within2 .ensures) ∙ c .if2 .taken) in
     let hi : c .before .before .before .before .args .addr ≤ 0x512B = upto 0x5120 0x512B _ (sym (c .before .is-within2 .ensures) ∙ c .if2 .taken) in
     omega arith
-
-cast-at-2 : tie.Need-cast-at-2
-cast-at-2 c = search needs
 
 array-read-t21 : tie.Need-array-read-t21
 array-read-t21 c =
@@ -52,21 +40,6 @@ array-read-t21 c =
 returns-2 : tie.Need-returns-2
 unfolding registerRead
 returns-2 c = rw (← c .before .before .before .is-within .ensures, c .before .before .if1 .left, ← c .before .is-within2 .ensures, c .if2 .taken)
-
-status-requires : tie.Need-status-requires
-status-requires c κs = search needs
-
-product-requires : tie.Need-product-requires
-product-requires c κs = search needs
-
-cast-t26 : tie.Need-cast-t26
-cast-t26 c = search needs
-
-product-requires-2 : tie.Need-product-requires-2
-product-requires-2 c κs = search needs
-
-cast-t29 : tie.Need-cast-t29
-cast-t29 c = search needs
 
 returns-3 : tie.Need-returns-3
 unfolding registerRead
@@ -132,33 +105,7 @@ pub register-or-spec : {M : Type 1} → statement M
 register-or-spec =
     tie.close
     (tie.spec
-    is-within-requires
-    sub-at
-    cast-at
-    array-read-t16
-    returns
-    is-within-requires-2
-    sub-at-2
-    cast-at-2
-    array-read-t21
-    returns-2
-    status-requires
-    product-requires
-    cast-t26
-    product-requires-2
-    cast-t29
-    returns-3
-    returns-4
-    returns-5
-    returns-6
-    returns-7
-    returns-8
-    returns-9
-    returns-10
-    returns-11
-    returns-12
-    returns-13
-    returns-14
-    returns-15
-    returns-16
-    returns-17)
+    (λ c κs. search needs) sub-at (λ c. search needs) array-read-t16 returns (λ c κs. search needs) sub-at-2 (λ c. search needs)
+    array-read-t21 returns-2 (λ c κs. search needs) (λ c κs. search needs) (λ c. search needs) (λ c κs. search needs) (λ c. search needs)
+    returns-3 returns-4 returns-5 returns-6 returns-7 returns-8 returns-9 returns-10 returns-11 returns-12 returns-13 returns-14 returns-15
+    returns-16 returns-17)

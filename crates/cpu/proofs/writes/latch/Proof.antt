@@ -7,30 +7,12 @@ use Rattle.cpu.proofs.Addresses.{from}
 use Rattle.cpu.proofs.writes.latch.Statement.{statement}
 use Rattle.cpu.proofs.writes.latch.Tie as tie
 
-is-within-requires : tie.Need-is-within-requires
-is-within-requires c κs = search needs
-
 sub-at : tie.Need-sub-at
 sub-at c = from 0x5C00 0x5FFF _ (sym (c .before .is-within .ensures) ∙ and-left _ _ (c .if1 .taken))
-
-cast-at : tie.Need-cast-at
-cast-at c = search needs
-
-put-requires : tie.Need-put-requires
-put-requires c κs = search needs
-
-put-requires-2 : tie.Need-put-requires-2
-put-requires-2 c κs = search needs
-
-same-length : tie.Need-same-length
-same-length c = search needs
 
 returns : tie.Need-returns
 unfolding latched
 returns c = rw (← c .before .before .before .before .before .before .is-within .ensures, c .before .before .before .before .before .if1 .taken, c .before .before .before .before .if2 .taken) (c .before .before .put .ensures)
-
-same-length-2 : tie.Need-same-length-2
-same-length-2 c = search needs
 
 returns-2 : tie.Need-returns-2
 unfolding latched
@@ -44,13 +26,5 @@ pub latch-spec : {M : Type 1} → statement M
 latch-spec =
     tie.close
     (tie.spec
-    is-within-requires
-    sub-at
-    cast-at
-    put-requires
-    put-requires-2
-    same-length
-    returns
-    same-length-2
-    returns-2
-    returns-3)
+    (λ c κs. search needs) sub-at (λ c. search needs) (λ c κs. search needs) (λ c κs. search needs) (λ c. search needs) returns
+    (λ c. search needs) returns-2 returns-3)

@@ -3,11 +3,8 @@ use borrow.Author.Needs.{needs}
 use Rattle.cpu.proofs.writes.maps_chr.Statement.{statement}
 use Rattle.cpu.proofs.writes.maps_chr.Tie as tie
 
-is-within-requires : tie.Need-is-within-requires
-is-within-requires c κs = search needs
-
 returns : tie.Need-returns
 returns c = rw (c .is-within .ensures)
 
 pub maps-chr-spec : {M : Type 1} → statement M
-maps-chr-spec = tie.close (tie.spec is-within-requires returns)
+maps-chr-spec = tie.close (tie.spec (λ c κs. search needs) returns)

@@ -3,14 +3,8 @@ use borrow.Author.Needs.{needs}
 use Rattle.cpu.proofs.writes.maps_prg.Statement.{statement}
 use Rattle.cpu.proofs.writes.maps_prg.Tie as tie
 
-is-within-requires : tie.Need-is-within-requires
-is-within-requires c κs = search needs
-
-is-within-requires-2 : tie.Need-is-within-requires-2
-is-within-requires-2 c κs = search needs
-
 returns : tie.Need-returns
 returns c = rw (c .is-within2 .ensures, c .before .is-within .ensures)
 
 pub maps-prg-spec : {M : Type 1} → statement M
-maps-prg-spec = tie.close (tie.spec is-within-requires is-within-requires-2 returns)
+maps-prg-spec = tie.close (tie.spec (λ c κs. search needs) (λ c κs. search needs) returns)

@@ -7,21 +7,12 @@ use Rattle.state.proofs.SizeLaws.{lengths-say}
 use Rattle.cpu.proofs.writes.prg_pages_after.Statement.{statement}
 use Rattle.cpu.proofs.writes.prg_pages_after.Tie as tie
 
-maps-prg-requires : tie.Need-maps-prg-requires
-maps-prg-requires c κs = search needs
-
 map-prg-requires : tie.Need-map-prg-requires
 map-prg-requires c κs = let t = lengths-say _ (c .before .before .pre) in (omega (arith, t .prg-whole), t .ram-whole)
 
 returns : tie.Need-returns
 unfolding prgPagesAfter
 returns c = rw (← c .before .before .maps-prg .ensures, c .before .if1 .taken) (c .map-prg .ensures)
-
-exram-page-requires : tie.Need-exram-page-requires
-exram-page-requires c κs = search needs
-
-array-set-from-next : tie.Need-array-set-from-next
-array-set-from-next c = search needs
 
 returns-2 : tie.Need-returns-2
 unfolding prgPagesAfter
@@ -35,10 +26,4 @@ pub prg-pages-after-spec : {M : Type 1} → statement M
 prg-pages-after-spec =
     tie.close
     (tie.spec
-    maps-prg-requires
-    map-prg-requires
-    returns
-    exram-page-requires
-    array-set-from-next
-    returns-2
-    returns-3)
+    (λ c κs. search needs) map-prg-requires returns (λ c κs. search needs) (λ c. search needs) returns-2 returns-3)

@@ -17,12 +17,6 @@ abbrev μ-loop : tie.MeasureT-loop
 abbrev turn : tie.After-slice-known8 Inv-loop μ-loop → tie.In-loop Inv-loop μ-loop
 turn c = c .before .before .before .before .before .before .before .before .before .before .before .before .before
 
-loop-holds : tie.Need-loop-holds Inv-loop μ-loop
-loop-holds c = search needs
-
-played-requires : tie.Need-played-requires Inv-loop μ-loop
-played-requires c κs = search needs
-
 add-count : tie.Need-add-count Inv-loop μ-loop
 add-count c = omega (arith, turn (c .before .before .before) .loop-test .taken)
 
@@ -31,21 +25,6 @@ loop-less c = omega (arith, turn (c .before .before .before) .loop-test .taken)
 
 loop-again : tie.Need-loop-again Inv-loop μ-loop
 loop-again c = (omega (arith, turn (c .before .before .before) .loop-test .taken), omega (arith, c .before .before .before .before .before .before .before .before .before .before .chr .given, turn (c .before .before .before) .before .loop .inv .1), omega (arith, c .before .before .before .before .before .before .before .before .ram .given, turn (c .before .before .before) .before .loop .inv .2), omega (arith, c .before .before .before .before .before .before .ciram .given, turn (c .before .before .before) .before .loop .inv .3), omega (arith, c .before .before .before .before .exram .given, turn (c .before .before .before) .before .loop .inv .4))
-
-same-length : tie.Need-same-length Inv-loop μ-loop
-same-length c = search needs
-
-same-length-2 : tie.Need-same-length-2 Inv-loop μ-loop
-same-length-2 c = search needs
-
-same-length-3 : tie.Need-same-length-3 Inv-loop μ-loop
-same-length-3 c = search needs
-
-same-length-4 : tie.Need-same-length-4 Inv-loop μ-loop
-same-length-4 c = search needs
-
-returns : tie.Need-returns Inv-loop μ-loop
-returns c = search needs
 
 same-length-5 : tie.Need-same-length-5 Inv-loop μ-loop
 same-length-5 c = omega (arith, c .before .before .before .before .before .before .before .before .before .chr .given, turn (c .before .before) .before .loop .inv .1)
@@ -59,27 +38,9 @@ same-length-7 c = omega (arith, c .before .before .before .before .before .ciram
 same-length-8 : tie.Need-same-length-8 Inv-loop μ-loop
 same-length-8 c = omega (arith, c .before .before .before .exram .given, turn (c .before .before) .before .loop .inv .4)
 
-returns-2 : tie.Need-returns-2 Inv-loop μ-loop
-returns-2 c = search needs
-
 pub records-spec : {M : Type 1} → statement M
 records-spec =
     tie.close
     (tie.spec
-    Inv-loop
-    μ-loop
-    loop-holds
-    played-requires
-    add-count
-    loop-less
-    loop-again
-    same-length
-    same-length-2
-    same-length-3
-    same-length-4
-    returns
-    same-length-5
-    same-length-6
-    same-length-7
-    same-length-8
-    returns-2)
+    Inv-loop μ-loop (λ c. search needs) (λ c κs. search needs) add-count loop-less loop-again (λ c. search needs) (λ c. search needs)
+    (λ c. search needs) (λ c. search needs) (λ c. search needs) same-length-5 same-length-6 same-length-7 same-length-8 (λ c. search needs))

@@ -6,32 +6,17 @@ use borrow.Author.Needs.{needs}
 use Rattle.host.proofs.clocks.mmc5_clock.Statement.{statement}
 use Rattle.host.proofs.clocks.mmc5_clock.Tie as tie
 
-known-requires : tie.Need-known-requires
-known-requires c κs = search needs
-
-words-in-range-requires : tie.Need-words-in-range-requires
-words-in-range-requires c κs = search needs
-
 returns : tie.Need-returns
 returns c =
     let a = c .before .before .before .before .before .before .before .before .before .before .before .args in
     let w = (wordsAt (a .bytes .now) (a .halves .now) (a .wide .now) (a .«prg-banks» .now) (a .«chr-banks» .now) (a .«prg-pages» .now) (a .«chr-pages» .now)) in
     not-in-range-left w _ _ (c .before .before .before .before .before .before .before .known .ensures) (c .before .words-in-range .ensures) (c .if1 .taken) (clock-refused _)
 
-detector-of-requires : tie.Need-detector-of-requires
-detector-of-requires c κs = search needs
-
 clock-requires : tie.Need-clock-requires
 clock-requires c κs =
     let a = c .before .before .before .before .before .before .before .before .before .before .before .before .before .before .args in
     let w = (wordsAt (a .bytes .now) (a .halves .now) (a .wide .now) (a .«prg-banks» .now) (a .«chr-banks» .now) (a .«prg-pages» .now) (a .«chr-pages» .now)) in
     idle-small (stateOf w) _ (in-range-ranged w _ (c .before .before .before .before .words-in-range .ensures) (c .before .before .before .if1 .left)) (c .detector-of .ensures)
-
-put-detector-requires : tie.Need-put-detector-requires
-put-detector-requires c κs = search needs
-
-with-interrupt-requires : tie.Need-with-interrupt-requires
-with-interrupt-requires c κs = search needs
 
 returns-2 : tie.Need-returns-2
 returns-2 c =
@@ -45,11 +30,5 @@ pub mmc5-clock-spec : {M : Type 1} → statement M
 mmc5-clock-spec =
     tie.close
     (tie.spec
-    known-requires
-    words-in-range-requires
-    returns
-    detector-of-requires
-    clock-requires
-    put-detector-requires
-    with-interrupt-requires
-    returns-2)
+    (λ c κs. search needs) (λ c κs. search needs) returns (λ c κs. search needs) clock-requires (λ c κs. search needs)
+    (λ c κs. search needs) returns-2)

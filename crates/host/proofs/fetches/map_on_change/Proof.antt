@@ -7,26 +7,8 @@ use borrow.Author.Needs.{needs}
 use Rattle.host.proofs.fetches.map_on_change.Statement.{statement}
 use Rattle.host.proofs.fetches.map_on_change.Tie as tie
 
-set-changed-requires : tie.Need-set-changed-requires
-set-changed-requires c κs = search needs
-
 returns : tie.Need-returns
 returns c = rw (← c .before .set-changed .ensures, not-true (c .before .set-changed .result) (c .if1 .taken)) (sym (numbers-back (c .before .before .args .numbers .now)))
-
-lengths-of-requires : tie.Need-lengths-of-requires
-lengths-of-requires c κs = search needs
-
-regs-of-requires : tie.Need-regs-of-requires
-regs-of-requires c κs = search needs
-
-chr-table-requires : tie.Need-chr-table-requires
-chr-table-requires c κs = search needs
-
-map-chr-requires : tie.Need-map-chr-requires
-map-chr-requires c κs = search needs
-
-chr-numbers-requires : tie.Need-chr-numbers-requires
-chr-numbers-requires c κs = search needs
 
 returns-2 : tie.Need-returns-2
 returns-2 c =
@@ -36,11 +18,5 @@ pub map-on-change-spec : {M : Type 1} → statement M
 map-on-change-spec =
     tie.close
     (tie.spec
-    set-changed-requires
-    returns
-    lengths-of-requires
-    regs-of-requires
-    chr-table-requires
-    map-chr-requires
-    chr-numbers-requires
-    returns-2)
+    (λ c κs. search needs) returns (λ c κs. search needs) (λ c κs. search needs) (λ c κs. search needs) (λ c κs. search needs)
+    (λ c κs. search needs) returns-2)

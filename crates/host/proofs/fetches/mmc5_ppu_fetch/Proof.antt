@@ -11,39 +11,12 @@ use borrow.Author.Needs.{needs}
 use Rattle.host.proofs.fetches.mmc5_ppu_fetch.Statement.{statement}
 use Rattle.host.proofs.fetches.mmc5_ppu_fetch.Tie as tie
 
-known-requires : tie.Need-known-requires
-known-requires c κs = search needs
-
-passed-requires : tie.Need-passed-requires
-passed-requires c κs = search needs
-
-enum-known-gate : tie.Need-enum-known-gate
-enum-known-gate c = search needs
-
-plain-requires : tie.Need-plain-requires
-plain-requires c κs = search needs
-
 returns : tie.Need-returns
 returns c =
     let a = c .before .before .before .before .before .before .before .before .before .before .before .before .before .before .before .before .before .before .before .args in
     let w = wordsAt (a .bytes .now) (a .halves .now) (a .wide .now) (a .«prg-banks» .now) (a .«chr-banks» .now) (a .«prg-pages» .now) (a .«chr-pages» .now) in
     let m = memOf (a .prg .now) (a .chr .now) (a .ram .now) (a .ciram .now) (a .exram .now) in
     shut-left w m _ _ _ _ (c .before .before .before .before .before .before .before .before .before .before .known .ensures) (c .before .before .before .before .passed .ensures) (c .before .before .gate .given .1) (who-is-refused .fetch-shut _ _ _ _) (c .plain .ensures)
-
-enum-told : tie.Need-enum-told
-enum-told c = search needs
-
-detector-of-requires : tie.Need-detector-of-requires
-detector-of-requires c κs = search needs
-
-status-of-requires : tie.Need-status-of-requires
-status-of-requires c κs = search needs
-
-counter-refused-requires : tie.Need-counter-refused-requires
-counter-refused-requires c κs = search needs
-
-plain-requires-2 : tie.Need-plain-requires-2
-plain-requires-2 c κs = search needs
 
 returns-2 : tie.Need-returns-2
 returns-2 c =
@@ -52,15 +25,6 @@ returns-2 c =
     let m = memOf (a .prg .now) (a .chr .now) (a .ram .now) (a .ciram .now) (a .exram .now) in
     refused-left w _ _ _ (open-sound w m _ (c .before .before .before .before .before .before .before .before .before .before .before .before .before .before .before .before .before .before .known .ensures) (c .before .before .before .before .before .before .before .before .before .before .before .before .passed .ensures) (c .before .before .before .before .before .before .before .before .before .before .enum-told .given .1))
     (fetch-refused (stateOf w) m (opened w m _ (c .before .before .before .before .before .before .before .before .before .before .before .before .passed .ensures) (c .before .before .before .before .before .before .before .before .before .before .enum-told .given .1)) _ (not-refused (stateOf w) _ _ true _ _ (c .before .before .before .before .before .before .before .detector-of .ensures) (c .before .before .before .status-of .ensures) (c .before .before .counter-refused .ensures) (c .before .if1 .taken))) (c .plain2 .ensures)
-
-regs-of-requires : tie.Need-regs-of-requires
-regs-of-requires c κs = search needs
-
-split-of-requires : tie.Need-split-of-requires
-split-of-requires c κs = search needs
-
-counted-requires : tie.Need-counted-requires
-counted-requires c κs = search needs
 
 count-fetch-requires : tie.Need-count-fetch-requires
 count-fetch-requires c κs =
@@ -74,24 +38,6 @@ count-fetch-requires c κs =
       ),
     )
 
-chr-word-requires : tie.Need-chr-word-requires
-chr-word-requires c κs = search needs
-
-counted-answer-requires : tie.Need-counted-answer-requires
-counted-answer-requires c κs = search needs
-
-put-detector-requires : tie.Need-put-detector-requires
-put-detector-requires c κs = search needs
-
-put-tiles-requires : tie.Need-put-tiles-requires
-put-tiles-requires c κs = search needs
-
-put-region-requires : tie.Need-put-region-requires
-put-region-requires c κs = search needs
-
-with-interrupt-requires : tie.Need-with-interrupt-requires
-with-interrupt-requires c κs = search needs
-
 returns-3 : tie.Need-returns-3
 returns-3 c =
     let a = c .before .before .before .before .before .before .before .before .before .before .before .before .before .before .before .before .before .before .before .before .before .before .before .before .before .before .before .before .before .before .before .before .before .before .before .before .before .before .before .before .before .before .before .before .before .before .before .before .before .before .before .args in
@@ -103,24 +49,6 @@ returns-3 c =
     (c .before .before .before .before .before .before .before .put-detector .ensures .0) (c .before .before .before .before .before .before .before .put-detector .ensures .1)
     (c .before .before .before .before .put-tiles .ensures .0) (c .before .before .before .before .put-tiles .ensures .1)
     (c .before .put-region .ensures .0) (c .before .put-region .ensures .1) (c .with-interrupt .ensures)
-
-chosen-at-requires : tie.Need-chosen-at-requires
-chosen-at-requires c κs = search needs
-
-map-on-change-requires : tie.Need-map-on-change-requires
-map-on-change-requires c κs = search needs
-
-chr-word-requires-2 : tie.Need-chr-word-requires-2
-chr-word-requires-2 c κs = search needs
-
-other-answer-requires : tie.Need-other-answer-requires
-other-answer-requires c κs = search needs
-
-put-set-requires : tie.Need-put-set-requires
-put-set-requires c κs = search needs
-
-with-interrupt-requires-2 : tie.Need-with-interrupt-requires-2
-with-interrupt-requires-2 c κs = search needs
 
 returns-4 : tie.Need-returns-4
 returns-4 c =
@@ -135,32 +63,8 @@ pub mmc5-ppu-fetch-spec : {M : Type 1} → statement M
 mmc5-ppu-fetch-spec =
     tie.close
     (tie.spec
-    known-requires
-    passed-requires
-    enum-known-gate
-    plain-requires
-    returns
-    enum-told
-    detector-of-requires
-    status-of-requires
-    counter-refused-requires
-    plain-requires-2
-    returns-2
-    regs-of-requires
-    split-of-requires
-    counted-requires
-    count-fetch-requires
-    chr-word-requires
-    counted-answer-requires
-    put-detector-requires
-    put-tiles-requires
-    put-region-requires
-    with-interrupt-requires
-    returns-3
-    chosen-at-requires
-    map-on-change-requires
-    chr-word-requires-2
-    other-answer-requires
-    put-set-requires
-    with-interrupt-requires-2
-    returns-4)
+    (λ c κs. search needs) (λ c κs. search needs) (λ c. search needs) (λ c κs. search needs) returns (λ c. search needs)
+    (λ c κs. search needs) (λ c κs. search needs) (λ c κs. search needs) (λ c κs. search needs) returns-2 (λ c κs. search needs)
+    (λ c κs. search needs) (λ c κs. search needs) count-fetch-requires (λ c κs. search needs) (λ c κs. search needs) (λ c κs. search needs)
+    (λ c κs. search needs) (λ c κs. search needs) (λ c κs. search needs) returns-3 (λ c κs. search needs) (λ c κs. search needs)
+    (λ c κs. search needs) (λ c κs. search needs) (λ c κs. search needs) (λ c κs. search needs) returns-4)

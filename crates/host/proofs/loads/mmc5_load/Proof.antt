@@ -4,18 +4,6 @@ use borrow.Author.Needs.{needs}
 use Rattle.host.proofs.loads.mmc5_load.Statement.{statement}
 use Rattle.host.proofs.loads.mmc5_load.Tie as tie
 
-mirroring-numbered-requires : tie.Need-mirroring-numbered-requires
-mirroring-numbered-requires c κs = search needs
-
-load-requires : tie.Need-load-requires
-load-requires c κs = search needs
-
-put-state-requires : tie.Need-put-state-requires
-put-state-requires c κs = search needs
-
-with-interrupt-requires : tie.Need-with-interrupt-requires
-with-interrupt-requires c κs = search needs
-
 returns : tie.Need-returns
 returns c = load-left _ _ _ _ _ _ _ (c .before .before .before .before .before .before .before .before .before .before .before .load .ensures) (c .before .before .before .before .before .before .before .before .before .before .before .before .mirroring-numbered .ensures) (c .before .put-state .ensures) (c .with-interrupt .ensures)
 
@@ -23,8 +11,4 @@ pub mmc5-load-spec : {M : Type 1} → statement M
 mmc5-load-spec =
     tie.close
     (tie.spec
-    mirroring-numbered-requires
-    load-requires
-    put-state-requires
-    with-interrupt-requires
-    returns)
+    (λ c κs. search needs) (λ c κs. search needs) (λ c κs. search needs) (λ c κs. search needs) returns)

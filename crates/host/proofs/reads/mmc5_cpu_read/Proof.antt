@@ -9,33 +9,12 @@ use borrow.Author.Needs.{needs}
 use Rattle.host.proofs.reads.mmc5_cpu_read.Statement.{statement}
 use Rattle.host.proofs.reads.mmc5_cpu_read.Tie as tie
 
-known-requires : tie.Need-known-requires
-known-requires c κs = search needs
-
-passed-requires : tie.Need-passed-requires
-passed-requires c κs = search needs
-
-enum-known-gate : tie.Need-enum-known-gate
-enum-known-gate c = search needs
-
-plain-requires : tie.Need-plain-requires
-plain-requires c κs = search needs
-
 returns : tie.Need-returns
 returns c =
     let a = c .before .before .before .before .before .before .before .before .before .before .before .before .before .before .before .before .before .before .before .args in
     let w = (wordsAt (a .bytes .now) (a .halves .now) (a .wide .now) (a .«prg-banks» .now) (a .«chr-banks» .now) (a .«prg-pages» .now) (a .«chr-pages» .now)) in
     let m = (memOf (a .prg .now) (a .chr .now) (a .ram .now) (a .ciram .now) (a .exram .now)) in
     shut-left w m _ _ _ _ (c .before .before .before .before .before .before .before .before .before .before .known .ensures) (c .before .before .before .before .passed .ensures) (c .before .before .gate .given .1) (who-is-refused .read-shut _ _ _ _) (c .plain .ensures)
-
-enum-told : tie.Need-enum-told
-enum-told c = search needs
-
-audio-read-requires : tie.Need-audio-read-requires
-audio-read-requires c κs = search needs
-
-plain-requires-2 : tie.Need-plain-requires-2
-plain-requires-2 c κs = search needs
 
 returns-2 : tie.Need-returns-2
 returns-2 c =
@@ -44,33 +23,6 @@ returns-2 c =
     let m = (memOf (a .prg .now) (a .chr .now) (a .ram .now) (a .ciram .now) (a .exram .now)) in
     refused-left w _ _ _ (open-sound w m _ (c .before .before .before .before .before .before .before .before .before .before .before .known .ensures) (c .before .before .before .before .before .passed .ensures) (c .before .before .before .enum-told .given .1))
     (read-refused (stateOf w) m (opened w m _ (c .before .before .before .before .before .passed .ensures) (c .before .before .before .enum-told .given .1)) _ (sym (c .before .before .audio-read .ensures) ∙ c .before .if1 .taken)) (c .plain2 .ensures)
-
-detector-of-requires : tie.Need-detector-of-requires
-detector-of-requires c κs = search needs
-
-prg-word-requires : tie.Need-prg-word-requires
-prg-word-requires c κs = search needs
-
-page-answer-requires : tie.Need-page-answer-requires
-page-answer-requires c κs = search needs
-
-regs-of-requires : tie.Need-regs-of-requires
-regs-of-requires c κs = search needs
-
-split-of-requires : tie.Need-split-of-requires
-split-of-requires c κs = search needs
-
-register-or-requires : tie.Need-register-or-requires
-register-or-requires c κs = search needs
-
-irq-read-requires : tie.Need-irq-read-requires
-irq-read-requires c κs = search needs
-
-put-detector-requires : tie.Need-put-detector-requires
-put-detector-requires c κs = search needs
-
-with-interrupt-requires : tie.Need-with-interrupt-requires
-with-interrupt-requires c κs = search needs
 
 returns-3 : tie.Need-returns-3
 returns-3 c =
@@ -86,22 +38,7 @@ pub mmc5-cpu-read-spec : {M : Type 1} → statement M
 mmc5-cpu-read-spec =
     tie.close
     (tie.spec
-    known-requires
-    passed-requires
-    enum-known-gate
-    plain-requires
-    returns
-    enum-told
-    audio-read-requires
-    plain-requires-2
-    returns-2
-    detector-of-requires
-    prg-word-requires
-    page-answer-requires
-    regs-of-requires
-    split-of-requires
-    register-or-requires
-    irq-read-requires
-    put-detector-requires
-    with-interrupt-requires
-    returns-3)
+    (λ c κs. search needs) (λ c κs. search needs) (λ c. search needs) (λ c κs. search needs) returns (λ c. search needs)
+    (λ c κs. search needs) (λ c κs. search needs) returns-2 (λ c κs. search needs) (λ c κs. search needs) (λ c κs. search needs)
+    (λ c κs. search needs) (λ c κs. search needs) (λ c κs. search needs) (λ c κs. search needs) (λ c κs. search needs)
+    (λ c κs. search needs) returns-3)

@@ -4,23 +4,8 @@ use borrow.Author.Needs.{needs}
 use Rattle.host.proofs.whole.mmc5_ppu_register.Statement.{statement}
 use Rattle.host.proofs.whole.mmc5_ppu_register.Tie as tie
 
-is-good-requires : tie.Need-is-good-requires
-is-good-requires c κs = search needs
-
 returns : tie.Need-returns
 returns c = words-stay _ _ _ (c .before .is-good .ensures) (c .if1 .taken)
-
-state-of-requires : tie.Need-state-of-requires
-state-of-requires c κs = search needs
-
-ppu-register-requires : tie.Need-ppu-register-requires
-ppu-register-requires c κs = search needs
-
-put-state-requires : tie.Need-put-state-requires
-put-state-requires c κs = search needs
-
-with-interrupt-requires : tie.Need-with-interrupt-requires
-with-interrupt-requires c κs = search needs
 
 returns-2 : tie.Need-returns-2
 returns-2 c = words-left _ _ _ _ _ _ _ (c .before .before .before .before .before .before .before .before .before .before .before .before .before .before .before .before .before .before .before .before .before .is-good .ensures) (c .before .before .before .before .before .before .before .before .before .before .before .before .before .before .before .before .before .before .before .before .if1 .left) (c .before .before .before .before .before .before .before .before .before .before .before .before .state-of .ensures) (c .before .before .before .before .before .before .before .before .before .before .before .ppu-register .ensures) (c .before .put-state .ensures) (c .with-interrupt .ensures)
@@ -29,10 +14,4 @@ pub mmc5-ppu-register-spec : {M : Type 1} → statement M
 mmc5-ppu-register-spec =
     tie.close
     (tie.spec
-    is-good-requires
-    returns
-    state-of-requires
-    ppu-register-requires
-    put-state-requires
-    with-interrupt-requires
-    returns-2)
+    (λ c κs. search needs) returns (λ c κs. search needs) (λ c κs. search needs) (λ c κs. search needs) (λ c κs. search needs) returns-2)

@@ -22,15 +22,6 @@ loop-holds c = copy-first (c .before .args .good) _ _ (c .if1 .left)
 shared-slice-read-out : tie.Need-shared-slice-read-out Inv-loop μ-loop
 shared-slice-read-out c = omega (arith, c .before .before .loop .inv .long, c .before .loop-test .taken)
 
-slice-write-out : tie.Need-slice-write-out Inv-loop μ-loop
-slice-write-out c = search needs
-
-add-i : tie.Need-add-i Inv-loop μ-loop
-add-i c = search needs
-
-loop-less : tie.Need-loop-less Inv-loop μ-loop
-loop-less c = search needs
-
 loop-again : tie.Need-loop-again Inv-loop μ-loop
 loop-again c = copy-next _ _ _ _ _ (c .before .before .loop .inv) (c .before .loop-test .taken) refl
 
@@ -44,14 +35,5 @@ pub copy-spec : {M : Type 1} → statement M
 copy-spec =
     tie.close
     (tie.spec
-    Inv-loop
-    μ-loop
-    returns
-    loop-holds
-    shared-slice-read-out
-    slice-write-out
-    add-i
-    loop-less
-    loop-again
-    same-length
-    returns-2)
+    Inv-loop μ-loop returns loop-holds shared-slice-read-out (λ c. search needs) (λ c. search needs) (λ c. search needs) loop-again
+    same-length returns-2)

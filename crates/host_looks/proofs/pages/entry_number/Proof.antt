@@ -5,45 +5,6 @@ use borrow.Author.Needs.{needs}
 use Rattle.host_looks.proofs.pages.entry_number.Statement.{statement}
 use Rattle.host_looks.proofs.pages.entry_number.Tie as tie
 
-within-requires : tie.Need-within-requires
-within-requires c κs = search needs
-
-cast-low : tie.Need-cast-low
-cast-low c = search needs
-
-enum-told : tie.Need-enum-told
-enum-told c = search needs
-
-enum-told-2 : tie.Need-enum-told-2
-enum-told-2 c = search needs
-
-add-result : tie.Need-add-result
-add-result c = search needs
-
-enum-told-3 : tie.Need-enum-told-3
-enum-told-3 c = search needs
-
-add-result-2 : tie.Need-add-result-2
-add-result-2 c = search needs
-
-enum-told-4 : tie.Need-enum-told-4
-enum-told-4 c = search needs
-
-add-result-3 : tie.Need-add-result-3
-add-result-3 c = search needs
-
-enum-told-5 : tie.Need-enum-told-5
-enum-told-5 c = search needs
-
-add-result-4 : tie.Need-add-result-4
-add-result-4 c = search needs
-
-enum-told-6 : tie.Need-enum-told-6
-enum-told-6 c = search needs
-
-add-result-5 : tie.Need-add-result-5
-add-result-5 c = search needs
-
 returns : tie.Need-returns
 returns c = rw (c .enum-told .given .1, c .before .before .within .ensures) (sym (zero-add _))
 
@@ -66,22 +27,6 @@ pub entry-number-spec : {M : Type 1} → statement M
 entry-number-spec =
     tie.close
     (tie.spec
-    within-requires
-    cast-low
-    enum-told
-    enum-told-2
-    add-result
-    enum-told-3
-    add-result-2
-    enum-told-4
-    add-result-3
-    enum-told-5
-    add-result-4
-    enum-told-6
-    add-result-5
-    returns
-    returns-2
-    returns-3
-    returns-4
-    returns-5
-    returns-6)
+    (λ c κs. search needs) (λ c. search needs) (λ c. search needs) (λ c. search needs) (λ c. search needs) (λ c. search needs)
+    (λ c. search needs) (λ c. search needs) (λ c. search needs) (λ c. search needs) (λ c. search needs) (λ c. search needs)
+    (λ c. search needs) returns returns-2 returns-3 returns-4 returns-5 returns-6)

@@ -4,21 +4,6 @@ use borrow.Author.Needs.{needs}
 use Rattle.host_looks.proofs.pages.mmc5_cpu_page.Statement.{statement}
 use Rattle.host_looks.proofs.pages.mmc5_cpu_page.Tie as tie
 
-is-good-requires : tie.Need-is-good-requires
-is-good-requires c κs = search needs
-
-state-of-requires : tie.Need-state-of-requires
-state-of-requires c κs = search needs
-
-cpu-view-requires : tie.Need-cpu-view-requires
-cpu-view-requires c κs = search needs
-
-copy-requires : tie.Need-copy-requires
-copy-requires c κs = search needs
-
-same-length : tie.Need-same-length
-same-length c = search needs
-
 returns : tie.Need-returns
 returns c = page-copied _ _ _ _ _ _ _ _ (c .before .before .before .before .before .before .is-good .ensures) (c .before .before .before .before .before .state-of .ensures) (c .before .before .before .before .cpu-view .ensures) (c .before .before .copy .ensures)
 
@@ -26,9 +11,4 @@ pub mmc5-cpu-page-spec : {M : Type 1} → statement M
 mmc5-cpu-page-spec =
     tie.close
     (tie.spec
-    is-good-requires
-    state-of-requires
-    cpu-view-requires
-    copy-requires
-    same-length
-    returns)
+    (λ c κs. search needs) (λ c κs. search needs) (λ c κs. search needs) (λ c κs. search needs) (λ c. search needs) returns)

@@ -6,21 +6,6 @@ use borrow.Author.Needs.{needs}
 use Rattle.host_looks.proofs.pages.mmc5_ppu_entry.Statement.{statement}
 use Rattle.host_looks.proofs.pages.mmc5_ppu_entry.Tie as tie
 
-words-in-range-requires : tie.Need-words-in-range-requires
-words-in-range-requires c κs = search needs
-
-chr-word-requires : tie.Need-chr-word-requires
-chr-word-requires c κs = search needs
-
-page-of-requires : tie.Need-page-of-requires
-page-of-requires c κs = search needs
-
-entry-number-requires : tie.Need-entry-number-requires
-entry-number-requires c κs = search needs
-
-if-in-range-requires : tie.Need-if-in-range-requires
-if-in-range-requires c κs = search needs
-
 returns : tie.Need-returns
 returns c = entry-told _ _ _ _ _ _ (c .before .before .before .before .words-in-range .ensures) (c .before .before .page-of .ensures ∙ ap pageOf (c .before .before .before .chr-word .ensures)) (c .before .entry-number .ensures) (c .if-in-range .ensures)
 
@@ -28,9 +13,4 @@ pub mmc5-ppu-entry-spec : {M : Type 1} → statement M
 mmc5-ppu-entry-spec =
     tie.close
     (tie.spec
-    words-in-range-requires
-    chr-word-requires
-    page-of-requires
-    entry-number-requires
-    if-in-range-requires
-    returns)
+    (λ c κs. search needs) (λ c κs. search needs) (λ c κs. search needs) (λ c κs. search needs) (λ c κs. search needs) returns)

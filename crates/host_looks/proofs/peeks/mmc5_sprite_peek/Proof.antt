@@ -4,21 +4,6 @@ use borrow.Author.Needs.{needs}
 use Rattle.host_looks.proofs.peeks.mmc5_sprite_peek.Statement.{statement}
 use Rattle.host_looks.proofs.peeks.mmc5_sprite_peek.Tie as tie
 
-is-good-requires : tie.Need-is-good-requires
-is-good-requires c κs = search needs
-
-state-of-requires : tie.Need-state-of-requires
-state-of-requires c κs = search needs
-
-sprite-peek-requires : tie.Need-sprite-peek-requires
-sprite-peek-requires c κs = search needs
-
-plain-requires : tie.Need-plain-requires
-plain-requires c κs = search needs
-
-if-good-requires : tie.Need-if-good-requires
-if-good-requires c κs = search needs
-
 returns : tie.Need-returns
 returns c = look-told _ _ _ _ _ _ _ _ (c .before .before .before .before .is-good .ensures) (c .before .before .before .state-of .ensures) (c .before .before .sprite-peek .ensures) (c .before .plain .ensures) (c .if-good .ensures)
 
@@ -26,9 +11,4 @@ pub mmc5-sprite-peek-spec : {M : Type 1} → statement M
 mmc5-sprite-peek-spec =
     tie.close
     (tie.spec
-    is-good-requires
-    state-of-requires
-    sprite-peek-requires
-    plain-requires
-    if-good-requires
-    returns)
+    (λ c κs. search needs) (λ c κs. search needs) (λ c κs. search needs) (λ c κs. search needs) (λ c κs. search needs) returns)

@@ -4,21 +4,6 @@ use borrow.Author.Needs.{needs}
 use Rattle.host_looks.proofs.whole.mmc5_interrupt.Statement.{statement}
 use Rattle.host_looks.proofs.whole.mmc5_interrupt.Tie as tie
 
-is-good-requires : tie.Need-is-good-requires
-is-good-requires c κs = search needs
-
-state-of-requires : tie.Need-state-of-requires
-state-of-requires c κs = search needs
-
-interrupt-up-requires : tie.Need-interrupt-up-requires
-interrupt-up-requires c κs = search needs
-
-interrupt-requires : tie.Need-interrupt-requires
-interrupt-requires c κs = search needs
-
-if-good-requires : tie.Need-if-good-requires
-if-good-requires c κs = search needs
-
 returns : tie.Need-returns
 returns c = look-told _ _ _ _ _ _ _ _ (c .before .before .before .before .is-good .ensures) (c .before .before .before .state-of .ensures) (c .before .before .interrupt-up .ensures) (c .before .interrupt .ensures) (c .if-good .ensures)
 
@@ -26,9 +11,4 @@ pub mmc5-interrupt-spec : {M : Type 1} → statement M
 mmc5-interrupt-spec =
     tie.close
     (tie.spec
-    is-good-requires
-    state-of-requires
-    interrupt-up-requires
-    interrupt-requires
-    if-good-requires
-    returns)
+    (λ c κs. search needs) (λ c κs. search needs) (λ c κs. search needs) (λ c κs. search needs) (λ c κs. search needs) returns)

@@ -4,21 +4,6 @@ use borrow.Author.Needs.{needs}
 use Rattle.host_looks.proofs.whole.mmc5_mirroring.Statement.{statement}
 use Rattle.host_looks.proofs.whole.mmc5_mirroring.Tie as tie
 
-is-good-requires : tie.Need-is-good-requires
-is-good-requires c κs = search needs
-
-state-of-requires : tie.Need-state-of-requires
-state-of-requires c κs = search needs
-
-mirroring-requires : tie.Need-mirroring-requires
-mirroring-requires c κs = search needs
-
-mirroring-requires-2 : tie.Need-mirroring-requires-2
-mirroring-requires-2 c κs = search needs
-
-if-good-requires : tie.Need-if-good-requires
-if-good-requires c κs = search needs
-
 returns : tie.Need-returns
 returns c = look-told _ _ _ _ _ _ _ _ (c .before .before .before .before .is-good .ensures) (c .before .before .before .state-of .ensures) (c .before .before .mirroring .ensures) (c .before .mirroring2 .ensures) (c .if-good .ensures)
 
@@ -26,9 +11,4 @@ pub mmc5-mirroring-spec : {M : Type 1} → statement M
 mmc5-mirroring-spec =
     tie.close
     (tie.spec
-    is-good-requires
-    state-of-requires
-    mirroring-requires
-    mirroring-requires-2
-    if-good-requires
-    returns)
+    (λ c κs. search needs) (λ c κs. search needs) (λ c κs. search needs) (λ c κs. search needs) (λ c κs. search needs) returns)

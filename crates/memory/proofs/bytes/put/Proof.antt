@@ -5,17 +5,8 @@ use Rattle.memory.proofs.ByteLaws.{set-past}
 use Rattle.memory.proofs.bytes.put.Statement.{statement}
 use Rattle.memory.proofs.bytes.put.Tie as tie
 
-slice-write-buffer : tie.Need-slice-write-buffer
-slice-write-buffer c = search needs
-
-same-length : tie.Need-same-length
-same-length c = search needs
-
-returns : tie.Need-returns
-returns c = search needs
-
 returns-2 : tie.Need-returns-2
 returns-2 c = sym (set-past _ _ _ (search needs))
 
 pub put-spec : {M : Type 1} → statement M
-put-spec = tie.close (tie.spec slice-write-buffer same-length returns returns-2)
+put-spec = tie.close (tie.spec (λ c. search needs) (λ c. search needs) (λ c. search needs) returns-2)

@@ -6,27 +6,6 @@ use Rattle.memory.specs.declared.Page.{Page}
 use Rattle.memory.proofs.bytes.store.Statement.{statement}
 use Rattle.memory.proofs.bytes.store.Tie as tie
 
-page-of-requires : tie.Need-page-of-requires
-page-of-requires c κs = search needs
-
-place-of-requires : tie.Need-place-of-requires
-place-of-requires c κs = search needs
-
-store-at-requires : tie.Need-store-at-requires
-store-at-requires c κs = search needs
-
-same-length : tie.Need-same-length
-same-length c = search needs
-
-same-length-2 : tie.Need-same-length-2
-same-length-2 c = search needs
-
-same-length-3 : tie.Need-same-length-3
-same-length-3 c = search needs
-
-same-length-4 : tie.Need-same-length-4
-same-length-4 c = search needs
-
 returns : tie.Need-returns
 unfolding pageStored
 returns c =
@@ -43,12 +22,5 @@ pub store-spec : {M : Type 1} → statement M
 store-spec =
     tie.close
     (tie.spec
-    page-of-requires
-    place-of-requires
-    store-at-requires
-    same-length
-    same-length-2
-    same-length-3
-    same-length-4
-    returns
-    returns-2)
+    (λ c κs. search needs) (λ c κs. search needs) (λ c κs. search needs) (λ c. search needs) (λ c. search needs) (λ c. search needs)
+    (λ c. search needs) returns returns-2)

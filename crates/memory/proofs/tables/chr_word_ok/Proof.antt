@@ -5,20 +5,11 @@ use Rattle.memory.proofs.TableLaws.{low-small, chr-runs}
 use Rattle.memory.proofs.tables.chr_word_ok.Statement.{statement}
 use Rattle.memory.proofs.tables.chr_word_ok.Tie as tie
 
-cast-pages : tie.Need-cast-pages
-cast-pages c = search needs
-
-if-so-requires : tie.Need-if-so-requires
-if-so-requires c κs = search needs
-
 sub-result : tie.Need-sub-result
 sub-result c = rw (c .if-so .ensures) (low-small (c .before .args .«chr-writable») (omega arith))
-
-add-result : tie.Need-add-result
-add-result c = search needs
 
 returns : tie.Need-returns
 returns c = rw (c .if-so .ensures) (chr-runs _ _ _ (search needs) (search needs))
 
 pub chr-word-ok-spec : {M : Type 1} → statement M
-chr-word-ok-spec = tie.close (tie.spec cast-pages if-so-requires sub-result add-result returns)
+chr-word-ok-spec = tie.close (tie.spec (λ c. search needs) (λ c κs. search needs) sub-result (λ c. search needs) returns)

@@ -4,14 +4,8 @@ use borrow.Author.Needs.{needs}
 use Rattle.memory.proofs.tables.prg_word_ok.Statement.{statement}
 use Rattle.memory.proofs.tables.prg_word_ok.Tie as tie
 
-prg-place-requires : tie.Need-prg-place-requires
-prg-place-requires c κs = search needs
-
-prg-places-requires : tie.Need-prg-places-requires
-prg-places-requires c κs = search needs
-
 returns : tie.Need-returns
 returns c = rw (c .prg-places .ensures, c .before .prg-place .ensures .0) (prg-run _ _ _ (search needs) (search needs) (search needs))
 
 pub prg-word-ok-spec : {M : Type 1} → statement M
-prg-word-ok-spec = tie.close (tie.spec prg-place-requires prg-places-requires returns)
+prg-word-ok-spec = tie.close (tie.spec (λ c κs. search needs) (λ c κs. search needs) returns)

@@ -11,15 +11,9 @@ returns : tie.Need-returns
 unfolding wordNumber windowPage
 returns c = rw (eq-eqb _ _ (c .if1 .taken))
 
-first-start-requires : tie.Need-first-start-requires
-first-start-requires c κs = search needs
-
-word-of-requires : tie.Need-word-of-requires
-word-of-requires c κs = search needs
-
 returns-2 : tie.Need-returns-2
 unfolding windowPage
 returns-2 c = c .word-of .ensures ∙ rw (ne-eqb _ _ (c .before .before .if1 .left), c .before .first-start .ensures)
 
 pub chr-window-spec : {M : Type 1} → statement M
-chr-window-spec = tie.close (tie.spec returns first-start-requires word-of-requires returns-2)
+chr-window-spec = tie.close (tie.spec returns (λ c κs. search needs) (λ c κs. search needs) returns-2)

@@ -6,12 +6,6 @@ use Rattle.memory.proofs.WindowLaws.{start-inside, first-page}
 use Rattle.memory.proofs.windows.first_start.Statement.{statement}
 use Rattle.memory.proofs.windows.first_start.Tie as tie
 
-banks-of-requires : tie.Need-banks-of-requires
-banks-of-requires c κs = search needs
-
-rem-result : tie.Need-rem-result
-rem-result c = search needs
-
 mul-result : tie.Need-mul-result
 mul-result c =
     let inside = start-inside (c .before .args .len) (c .before .args .size) (c .before .args .bank) (c .before .pre .1) (c .before .pre .0) in
@@ -21,4 +15,4 @@ returns : tie.Need-returns
 returns c = rw (c .banks-of .ensures) (sym (first-page _ _ _ (c .before .pre .1) (c .before .pre .0)))
 
 pub first-start-spec : {M : Type 1} → statement M
-first-start-spec = tie.close (tie.spec banks-of-requires rem-result mul-result returns)
+first-start-spec = tie.close (tie.spec (λ c κs. search needs) (λ c. search needs) mul-result returns)

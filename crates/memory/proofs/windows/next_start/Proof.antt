@@ -4,18 +4,6 @@ use borrow.Author.Tests.{lt-ltb, le-ltb}
 use Rattle.memory.proofs.windows.next_start.Statement.{statement}
 use Rattle.memory.proofs.windows.next_start.Tie as tie
 
-add-if1 : tie.Need-add-if1
-add-if1 c = search needs
-
-add-result : tie.Need-add-result
-add-result c = search needs
-
-add-result-2 : tie.Need-add-result-2
-add-result-2 c = search needs
-
-sub-result : tie.Need-sub-result
-sub-result c = search needs
-
 returns : tie.Need-returns
 returns c = rw (lt-ltb _ _ (c .if1 .taken))
 
@@ -23,4 +11,4 @@ returns-2 : tie.Need-returns-2
 returns-2 c = rw (le-ltb _ _ (c .if1 .left))
 
 pub next-start-spec : {M : Type 1} → statement M
-next-start-spec = tie.close (tie.spec add-if1 add-result add-result-2 sub-result returns returns-2)
+next-start-spec = tie.close (tie.spec (λ c. search needs) (λ c. search needs) (λ c. search needs) (λ c. search needs) returns returns-2)

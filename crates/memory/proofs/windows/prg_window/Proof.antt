@@ -18,31 +18,13 @@ returns : tie.Need-returns Inv-loop μ-loop
 unfolding wordNumber windowPage
 returns c = rw (eq-eqb _ _ (c .if1 .taken))
 
-first-start-requires : tie.Need-first-start-requires Inv-loop μ-loop
-first-start-requires c κs = search needs
-
 loop-holds : tie.Need-loop-holds Inv-loop μ-loop
 loop-holds c = fill-first _ _ _ _ _ (search needs) (c .first-start .ensures)
-
-word-of-requires : tie.Need-word-of-requires Inv-loop μ-loop
-word-of-requires c κs = search needs
-
-mul-pages : tie.Need-mul-pages Inv-loop μ-loop
-mul-pages c = search needs
-
-array-set-from-pages : tie.Need-array-set-from-pages Inv-loop μ-loop
-array-set-from-pages c = search needs
 
 next-start-requires : tie.Need-next-start-requires Inv-loop μ-loop
 next-start-requires c κs =
     let inv = c .before .before .loop .inv in
     (search needs, rw (inv .here) (start-below _ 8192 _ _ (inv .some)))
-
-add-i : tie.Need-add-i Inv-loop μ-loop
-add-i c = search needs
-
-loop-less : tie.Need-loop-less Inv-loop μ-loop
-loop-less c = search needs
 
 loop-again : tie.Need-loop-again Inv-loop μ-loop
 loop-again c =
@@ -55,16 +37,5 @@ pub prg-window-spec : {M : Type 1} → statement M
 prg-window-spec =
     tie.close
     (tie.spec
-    Inv-loop
-    μ-loop
-    returns
-    first-start-requires
-    loop-holds
-    word-of-requires
-    mul-pages
-    array-set-from-pages
-    next-start-requires
-    add-i
-    loop-less
-    loop-again
-    returns-2)
+    Inv-loop μ-loop returns (λ c κs. search needs) loop-holds (λ c κs. search needs) (λ c. search needs) (λ c. search needs)
+    next-start-requires (λ c. search needs) (λ c. search needs) loop-again returns-2)

@@ -10,24 +10,9 @@ use Rattle.memory.proofs.words.place_of.Tie as tie
 returns : tie.Need-returns
 returns c = sym (blank-place _ _ (c .if1 .taken))
 
-page-of-requires : tie.Need-page-of-requires
-page-of-requires c κs = search needs
-
-cast-t8 : tie.Need-cast-t8
-cast-t8 c = search needs
-
-mul-t9 : tie.Need-mul-t9
-mul-t9 c = search needs
-
-cast-t11 : tie.Need-cast-t11
-cast-t11 c = search needs
-
-add-t12 : tie.Need-add-t12
-add-t12 c = search needs
-
 returns-2 : tie.Need-returns-2
 returns-2 c = rw (c .before .page-of .ensures) (sym (shown-place _ _ (omega (arith, pos-of-ne-zero (c .before .before .if1 .left)))))
 
 pub place-of-spec : {M : Type 1} → statement M
 place-of-spec =
-    tie.close (tie.spec returns page-of-requires cast-t8 mul-t9 cast-t11 add-t12 returns-2)
+    tie.close (tie.spec returns (λ c κs. search needs) (λ c. search needs) (λ c. search needs) (λ c. search needs) (λ c. search needs) returns-2)

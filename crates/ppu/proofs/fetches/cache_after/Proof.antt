@@ -4,15 +4,6 @@ use Rattle.ppu.specs.Fetches.{cacheAfter}
 use Rattle.ppu.proofs.fetches.cache_after.Statement.{statement}
 use Rattle.ppu.proofs.fetches.cache_after.Tie as tie
 
-attribute-use-requires : tie.Need-attribute-use-requires
-attribute-use-requires c κs = search needs
-
-attribute-address-requires : tie.Need-attribute-address-requires
-attribute-address-requires c κs = search needs
-
-sprite-fetch-requires : tie.Need-sprite-fetch-requires
-sprite-fetch-requires c κs = search needs
-
 returns : tie.Need-returns
 unfolding cacheAfter
 returns c = rw (← c .before .before .before .attribute-use .ensures, ← c .before .before .attribute-address .ensures, ← c .before .sprite-fetch .ensures, c .if1 .taken)
@@ -25,8 +16,4 @@ pub cache-after-spec : {M : Type 1} → statement M
 cache-after-spec =
     tie.close
     (tie.spec
-    attribute-use-requires
-    attribute-address-requires
-    sprite-fetch-requires
-    returns
-    returns-2)
+    (λ c κs. search needs) (λ c κs. search needs) (λ c κs. search needs) returns returns-2)

@@ -7,32 +7,8 @@ use Rattle.scanline.proofs.StepLaws.{column-below}
 use Rattle.ppu.proofs.fetches.split_seen.Statement.{statement}
 use Rattle.ppu.proofs.fetches.split_seen.Tie as tie
 
-nametable-use-requires : tie.Need-nametable-use-requires
-nametable-use-requires c κs = search needs
-
-active-requires : tie.Need-active-requires
-active-requires c κs = search needs
-
-name-fetch-requires : tie.Need-name-fetch-requires
-name-fetch-requires c κs = search needs
-
-column-requires : tie.Need-column-requires
-column-requires c κs = search needs
-
 cast-column : tie.Need-cast-column
 cast-column c = let b : c .column .result < 42 = rw (c .column .ensures) (column-below (c .before .before .before .before .before .args .tiles)) in omega arith
-
-first-tiles-requires : tie.Need-first-tiles-requires
-first-tiles-requires c κs = search needs
-
-prefetched-requires : tie.Need-prefetched-requires
-prefetched-requires c κs = search needs
-
-scroll-of-requires : tie.Need-scroll-of-requires
-scroll-of-requires c κs = search needs
-
-moved-requires : tie.Need-moved-requires
-moved-requires c κs = search needs
 
 returns : tie.Need-returns
 unfolding splitSeen
@@ -46,14 +22,5 @@ pub split-seen-spec : {M : Type 1} → statement M
 split-seen-spec =
     tie.close
     (tie.spec
-    nametable-use-requires
-    active-requires
-    name-fetch-requires
-    column-requires
-    cast-column
-    first-tiles-requires
-    prefetched-requires
-    scroll-of-requires
-    moved-requires
-    returns
-    returns-2)
+    (λ c κs. search needs) (λ c κs. search needs) (λ c κs. search needs) (λ c κs. search needs) cast-column (λ c κs. search needs)
+    (λ c κs. search needs) (λ c κs. search needs) (λ c κs. search needs) returns returns-2)

@@ -10,9 +10,6 @@ returns : tie.Need-returns
 unfolding direct
 returns c = rw (eq-eqb _ _ (c .if1 .taken))
 
-rem-at : tie.Need-rem-at
-rem-at c = search needs
-
 shared-slice-read-result : tie.Need-shared-slice-read-result
 shared-slice-read-result c = mod-lt _ (pos-of-ne-zero (c .before .if1 .left))
 
@@ -21,4 +18,4 @@ unfolding direct
 returns-2 c = rw (ne-eqb _ _ (c .before .if1 .left))
 
 pub direct-byte-spec : {M : Type 1} → statement M
-direct-byte-spec = tie.close (tie.spec returns rem-at shared-slice-read-result returns-2)
+direct-byte-spec = tie.close (tie.spec returns (λ c. search needs) shared-slice-read-result returns-2)

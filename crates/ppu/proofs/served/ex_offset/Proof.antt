@@ -5,21 +5,9 @@ use Rattle.ppu.specs.Served.{exOffset}
 use Rattle.ppu.proofs.served.ex_offset.Statement.{statement}
 use Rattle.ppu.proofs.served.ex_offset.Tie as tie
 
-mul-result : tie.Need-mul-result
-mul-result c = search needs
-
-cast-result : tie.Need-cast-result
-cast-result c = search needs
-
-mul-result-2 : tie.Need-mul-result-2
-mul-result-2 c = search needs
-
-cast-result-2 : tie.Need-cast-result-2
-cast-result-2 c = search needs
-
 returns : tie.Need-returns
 unfolding exOffset
 returns c = rw (and-mask (c .args .byte) 6, and-mask (c .args .addr) 12)
 
 pub ex-offset-spec : {M : Type 1} → statement M
-ex-offset-spec = tie.close (tie.spec mul-result cast-result mul-result-2 cast-result-2 returns)
+ex-offset-spec = tie.close (tie.spec (λ c. search needs) (λ c. search needs) (λ c. search needs) (λ c. search needs) returns)

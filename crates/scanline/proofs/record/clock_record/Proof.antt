@@ -8,11 +8,8 @@ use Rattle.scanline.proofs.record.clock_record.Tie as tie
 returns : tie.Need-returns
 returns c = simp (lt-leb (c .before .before .args .r .«idle_count») 2 (omega (arith, c .if1 .taken)))
 
-ticked-requires : tie.Need-ticked-requires
-ticked-requires c κs = search needs
-
 returns-2 : tie.Need-returns-2
 returns-2 c = simp (le-leb (c .before .before .before .args .r .«idle_count») 2 (omega (arith, c .before .if1 .left)), c .ticked .ensures)
 
 pub clock-record-spec : {M : Type 1} → statement M
-clock-record-spec = tie.close (tie.spec returns ticked-requires returns-2)
+clock-record-spec = tie.close (tie.spec returns (λ c κs. search needs) returns-2)

@@ -11,9 +11,6 @@ returns : tie.Need-returns
 unfolding tick
 returns c = simp (c .if1 .taken)
 
-add-n : tie.Need-add-n
-add-n c = search needs
-
 returns-2 : tie.Need-returns-2
 unfolding tick
 returns-2 c = let p : c .before .before .before .before .args .r .«idle_count» < 2 = omega (arith, c .before .if2 .taken) in simp (c .before .before .before .if1 .left, idle-on (c .before .before .before .before .args .r .«idle_count») p, idle-short (c .before .before .before .before .args .r .«idle_count») p)
@@ -23,4 +20,4 @@ unfolding tick
 returns-3 c = simp (c .before .before .if1 .left, idle-third (c .before .before .before .args .r .«idle_count») (c .before .before .before .pre) (omega (arith, c .if2 .left)))
 
 pub ticked-spec : {M : Type 1} → statement M
-ticked-spec = tie.close (tie.spec returns add-n returns-2 returns-3)
+ticked-spec = tie.close (tie.spec returns (λ c. search needs) returns-2 returns-3)

@@ -3,11 +3,8 @@ use borrow.Author.Needs.{needs}
 use Rattle.scanline.proofs.tiles.name_fetch.Statement.{statement}
 use Rattle.scanline.proofs.tiles.name_fetch.Tie as tie
 
-attribute-address-requires : tie.Need-attribute-address-requires
-attribute-address-requires c κs = search needs
-
 returns : tie.Need-returns
 returns c = rw (c .attribute-address .ensures)
 
 pub name-fetch-spec : {M : Type 1} → statement M
-name-fetch-spec = tie.close (tie.spec attribute-address-requires returns)
+name-fetch-spec = tie.close (tie.spec (λ c κs. search needs) returns)

@@ -4,11 +4,8 @@ use Rattle.scanline.proofs.StepLaws.{tile-over}
 use Rattle.scanline.proofs.tiles.tile_refused.Statement.{statement}
 use Rattle.scanline.proofs.tiles.tile_refused.Tie as tie
 
-name-fetch-requires : tie.Need-name-fetch-requires
-name-fetch-requires c κs = search needs
-
 returns : tie.Need-returns
 returns c = tile-over (c .before .args .tiles) (c .before .args .addr) _ (c .name-fetch .ensures)
 
 pub tile-refused-spec : {M : Type 1} → statement M
-tile-refused-spec = tie.close (tie.spec name-fetch-requires returns)
+tile-refused-spec = tie.close (tie.spec (λ c κs. search needs) returns)

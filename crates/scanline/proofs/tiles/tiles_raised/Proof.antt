@@ -7,9 +7,6 @@ use Rattle.scanline.specs.Tiles.{nextTile, tilesOk}
 use Rattle.scanline.proofs.tiles.tiles_raised.Statement.{statement}
 use Rattle.scanline.proofs.tiles.tiles_raised.Tie as tie
 
-name-fetch-requires : tie.Need-name-fetch-requires
-name-fetch-requires c κs = search needs
-
 add-result : tie.Need-add-result
 unfolding tilesOk
 add-result c = omega (arith, leb-true (c .before .before .args .tiles) 4294967293 (c .before .before .pre))
@@ -22,4 +19,4 @@ returns-2 : tie.Need-returns-2
 returns-2 c = rw (sym (c .before .name-fetch .ensures) ∙ c .if1 .left)
 
 pub tiles-raised-spec : {M : Type 1} → statement M
-tiles-raised-spec = tie.close (tie.spec name-fetch-requires add-result returns returns-2)
+tiles-raised-spec = tie.close (tie.spec (λ c κs. search needs) add-result returns returns-2)

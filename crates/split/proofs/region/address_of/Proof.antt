@@ -5,11 +5,8 @@ use Rattle.split.proofs.RegionLaws.{split-address-digits}
 use Rattle.split.proofs.region.address_of.Statement.{statement}
 use Rattle.split.proofs.region.address_of.Tie as tie
 
-mul-result : tie.Need-mul-result
-mul-result c = search needs
-
 returns : tie.Need-returns
 returns c = sym (split-address-digits (c .args .scroll) (c .args .column))
 
 pub address-of-spec : {M : Type 1} → statement M
-address-of-spec = tie.close (tie.spec mul-result returns)
+address-of-spec = tie.close (tie.spec (λ c. search needs) returns)

@@ -5,12 +5,6 @@ use Rattle.split.proofs.RegionLaws.{name-inside, name-outside}
 use Rattle.split.proofs.region.moved.Statement.{statement}
 use Rattle.split.proofs.region.moved.Tie as tie
 
-region-at-requires : tie.Need-region-at-requires
-region-at-requires c κs = search needs
-
-address-of-requires : tie.Need-address-of-requires
-address-of-requires c κs = search needs
-
 returns : tie.Need-returns
 returns c = rw (c .address-of .ensures) (sym (name-inside (c .before .before .before .args .v) (c .before .before .before .args .column) (c .before .before .before .args .first) (c .before .before .before .args .scroll) (sym (c .before .before .region-at .ensures) ∙ c .before .if1 .taken)))
 
@@ -18,4 +12,4 @@ returns-2 : tie.Need-returns-2
 returns-2 c = sym (name-outside (c .before .before .args .v) (c .before .before .args .column) (c .before .before .args .first) (c .before .before .args .scroll) (sym (c .before .region-at .ensures) ∙ c .if1 .left))
 
 pub moved-spec : {M : Type 1} → statement M
-moved-spec = tie.close (tie.spec region-at-requires address-of-requires returns returns-2)
+moved-spec = tie.close (tie.spec (λ c κs. search needs) (λ c κs. search needs) returns returns-2)

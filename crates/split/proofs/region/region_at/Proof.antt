@@ -5,12 +5,6 @@ use Rattle.split.specs.Region.{regionAt}
 use Rattle.split.proofs.region.region_at.Statement.{statement}
 use Rattle.split.proofs.region.region_at.Tie as tie
 
-side-at-requires : tie.Need-side-at-requires
-side-at-requires c κs = search needs
-
-cast-if1 : tie.Need-cast-if1
-cast-if1 c = search needs
-
 returns : tie.Need-returns
 unfolding regionAt
 returns c = rw (c .if1 .taken, c .before .before .side-at .ensures)
@@ -24,4 +18,4 @@ unfolding regionAt
 returns-3 c = rw (c .before .if1 .left, le-ltb _ _ (c .if2 .left), c .before .before .before .side-at .ensures)
 
 pub region-at-spec : {M : Type 1} → statement M
-region-at-spec = tie.close (tie.spec side-at-requires cast-if1 returns returns-2 returns-3)
+region-at-spec = tie.close (tie.spec (λ c κs. search needs) (λ c. search needs) returns returns-2 returns-3)

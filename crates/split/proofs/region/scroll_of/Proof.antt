@@ -5,20 +5,11 @@ use Rattle.memory.proofs.WordLaws.{bit-small}
 use Rattle.split.proofs.region.scroll_of.Statement.{statement}
 use Rattle.split.proofs.region.scroll_of.Tie as tie
 
-cast-sum : tie.Need-cast-sum
-cast-sum c = search needs
-
 add-sum : tie.Need-add-sum
 add-sum c = omega (arith, bit-small (c .args .prefetched))
 
 add-sum-2 : tie.Need-add-sum-2
 add-sum-2 c = omega (arith, bit-small (c .args .prefetched))
 
-cast-result : tie.Need-cast-result
-cast-result c = search needs
-
-returns : tie.Need-returns
-returns c = search needs
-
 pub scroll-of-spec : {M : Type 1} → statement M
-scroll-of-spec = tie.close (tie.spec cast-sum add-sum add-sum-2 cast-result returns)
+scroll-of-spec = tie.close (tie.spec (λ c. search needs) add-sum add-sum-2 (λ c. search needs) (λ c. search needs))

@@ -8,15 +8,9 @@ returns : tie.Need-returns
 unfolding gateOf
 returns c = rw (c .if1 .taken)
 
-same-lengths-requires : tie.Need-same-lengths-requires
-same-lengths-requires c κs = search needs
-
 returns-2 : tie.Need-returns-2
 unfolding gateOf
 returns-2 c = rw (c .before .before .if1 .left, ← c .before .same-lengths .ensures, c .if2 .taken)
-
-in-range-requires : tie.Need-in-range-requires
-in-range-requires c κs = search needs
 
 returns-3 : tie.Need-returns-3
 unfolding gateOf
@@ -29,4 +23,4 @@ returns-4 c = rw (c .before .before .before .before .if1 .left, ← c .before .b
 pub passed-spec : {M : Type 1} → statement M
 passed-spec =
     tie.close
-    (tie.spec returns same-lengths-requires returns-2 in-range-requires returns-3 returns-4)
+    (tie.spec returns (λ c κs. search needs) returns-2 (λ c κs. search needs) returns-3 returns-4)

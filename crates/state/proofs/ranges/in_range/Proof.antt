@@ -8,24 +8,9 @@ use Rattle.state.proofs.SizeLaws.{lengths-say}
 use Rattle.state.proofs.ranges.in_range.Statement.{statement}
 use Rattle.state.proofs.ranges.in_range.Tie as tie
 
-lengths-ok-requires : tie.Need-lengths-ok-requires
-lengths-ok-requires c κs = search needs
-
 returns : tie.Need-returns
 unfolding inRange
 returns c = rw (← c .before .lengths-ok .ensures, not-true (c .before .lengths-ok .result) (c .if1 .taken))
-
-ranges-ok-requires : tie.Need-ranges-ok-requires
-ranges-ok-requires c κs = search needs
-
-ranges-ok-requires-2 : tie.Need-ranges-ok-requires-2
-ranges-ok-requires-2 c κs = search needs
-
-ranges-ok-requires-3 : tie.Need-ranges-ok-requires-3
-ranges-ok-requires-3 c κs = search needs
-
-tiles-ok-requires : tie.Need-tiles-ok-requires
-tiles-ok-requires c κs = search needs
 
 prg-table-ok-requires : tie.Need-prg-table-ok-requires
 prg-table-ok-requires c κs = let t = lengths-say _ (sym (c .before .before .before .before .before .before .lengths-ok .ensures) ∙ not-false _ (c .before .before .before .before .before .if1 .left)) in (t .prg-most, t .ram-most)
@@ -41,12 +26,5 @@ pub in-range-spec : {M : Type 1} → statement M
 in-range-spec =
     tie.close
     (tie.spec
-    lengths-ok-requires
-    returns
-    ranges-ok-requires
-    ranges-ok-requires-2
-    ranges-ok-requires-3
-    tiles-ok-requires
-    prg-table-ok-requires
-    chr-table-ok-requires
-    returns-2)
+    (λ c κs. search needs) returns (λ c κs. search needs) (λ c κs. search needs) (λ c κs. search needs) (λ c κs. search needs)
+    prg-table-ok-requires chr-table-ok-requires returns-2)

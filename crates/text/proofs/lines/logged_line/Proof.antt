@@ -8,27 +8,6 @@ use Rattle.text.proofs.LineLaws.{word, word-if, last-word}
 use Rattle.text.proofs.lines.logged_line.Statement.{statement}
 use Rattle.text.proofs.lines.logged_line.Tie as tie
 
-number-requires : tie.Need-number-requires
-number-requires c κs = search needs
-
-number-requires-2 : tie.Need-number-requires-2
-number-requires-2 c κs = search needs
-
-letter-requires : tie.Need-letter-requires
-letter-requires c κs = search needs
-
-value-for-requires : tie.Need-value-for-requires
-value-for-requires c κs = search needs
-
-cast-number : tie.Need-cast-number
-cast-number c = search needs
-
-number-requires-3 : tie.Need-number-requires-3
-number-requires-3 c κs = search needs
-
-same-length : tie.Need-same-length
-same-length c = search needs
-
 returns : tie.Need-returns
 returns c =
     let first : ℕ = c .before .before .before .before .before .before .before .before .before .before .before .before .before .before .before .before .before .before .before .before .before .args .first in
@@ -43,11 +22,5 @@ pub logged-line-spec : {M : Type 1} → statement M
 logged-line-spec =
     tie.close
     (tie.spec
-    number-requires
-    number-requires-2
-    letter-requires
-    value-for-requires
-    cast-number
-    number-requires-3
-    same-length
-    returns)
+    (λ c κs. search needs) (λ c κs. search needs) (λ c κs. search needs) (λ c κs. search needs) (λ c. search needs) (λ c κs. search needs)
+    (λ c. search needs) returns)

@@ -5,18 +5,9 @@ use Rattle.text.proofs.LineLaws.{word, last-word}
 use Rattle.text.proofs.lines.too_long_line.Statement.{statement}
 use Rattle.text.proofs.lines.too_long_line.Tie as tie
 
-letter-requires : tie.Need-letter-requires
-letter-requires c κs = search needs
-
-number-requires : tie.Need-number-requires
-number-requires c κs = search needs
-
-same-length : tie.Need-same-length
-same-length c = search needs
-
 returns : tie.Need-returns
 returns c =
     word _ _ _ _ _ _ (c .before .before .before .before .before .before .letter .ensures) (last-word _ _ _ _ refl (c .before .before .number .ensures))
 
 pub too-long-line-spec : {M : Type 1} → statement M
-too-long-line-spec = tie.close (tie.spec letter-requires number-requires same-length returns)
+too-long-line-spec = tie.close (tie.spec (λ c κs. search needs) (λ c κs. search needs) (λ c. search needs) returns)

@@ -6,12 +6,6 @@ use Rattle.text.proofs.LineLaws.{with-value, no-value}
 use Rattle.text.proofs.lines.value_for.Statement.{statement}
 use Rattle.text.proofs.lines.value_for.Tie as tie
 
-number-requires : tie.Need-number-requires
-number-requires c κs = search needs
-
-same-length : tie.Need-same-length
-same-length c = search needs
-
 returns : tie.Need-returns
 returns c =
     let letter : ℕ = c .before .before .before .before .before .before .args .letter in
@@ -24,4 +18,4 @@ returns-2 c =
 
 pub value-for-spec : {M : Type 1} → statement M
 value-for-spec =
-    tie.close (tie.spec number-requires same-length returns returns-2)
+    tie.close (tie.spec (λ c κs. search needs) (λ c. search needs) returns returns-2)

@@ -5,17 +5,8 @@ use Rattle.text.proofs.SheetLaws.{one-byte, byte-after}
 use Rattle.text.proofs.words.letter.Statement.{statement}
 use Rattle.text.proofs.words.letter.Tie as tie
 
-put-requires : tie.Need-put-requires
-put-requires c κs = search needs
-
-put-requires-2 : tie.Need-put-requires-2
-put-requires-2 c κs = search needs
-
-same-length : tie.Need-same-length
-same-length c = search needs
-
 returns : tie.Need-returns
 returns c = byte-after _ _ _ _ _ (c .before .before .before .before .before .before .put .ensures ∙ one-byte _ _) (c .before .before .put2 .ensures)
 
 pub letter-spec : {M : Type 1} → statement M
-letter-spec = tie.close (tie.spec put-requires put-requires-2 same-length returns)
+letter-spec = tie.close (tie.spec (λ c κs. search needs) (λ c κs. search needs) (λ c. search needs) returns)

@@ -11,23 +11,8 @@ returns : tie.Need-returns
 unfolding limited
 returns c = rw (no-group 2 _ _ (c .if1 .taken))
 
-shared-slice-read-wide : tie.Need-shared-slice-read-wide
-shared-slice-read-wide c = search needs
-
-wide-requires : tie.Need-wide-requires
-wide-requires c κs = search needs
-
-add-t8 : tie.Need-add-t8
-add-t8 c = search needs
-
 returns-2 : tie.Need-returns-2
 returns-2 c = sym (only-group _ _ _ (c .before .before .before .if1 .left) (c .before .wide .ensures) 2 65535 (c .if2 .taken) (omega arith))
-
-add-second-at : tie.Need-add-second-at
-add-second-at c = search needs
-
-second-at-requires : tie.Need-second-at-requires
-second-at-requires c κs = search needs
 
 returns-3 : tie.Need-returns-3
 returns-3 c = rw (further-group _ _ _ (c .before .before .before .before .if1 .left) (c .before .before .wide .ensures) 2 (c .before .if2 .left)) (c .second-at .ensures)
@@ -36,11 +21,4 @@ pub address-at-spec : {M : Type 1} → statement M
 address-at-spec =
     tie.close
     (tie.spec
-    returns
-    shared-slice-read-wide
-    wide-requires
-    add-t8
-    returns-2
-    add-second-at
-    second-at-requires
-    returns-3)
+    returns (λ c. search needs) (λ c κs. search needs) (λ c. search needs) returns-2 (λ c. search needs) (λ c κs. search needs) returns-3)

@@ -12,12 +12,6 @@ returns : tie.Need-returns
 unfolding limited grouped
 returns c = rw (no-group 0 _ _ (c .if1 .taken))
 
-shared-slice-read-wide : tie.Need-shared-slice-read-wide
-shared-slice-read-wide c = search needs
-
-wide-requires : tie.Need-wide-requires
-wide-requires c κs = search needs
-
 returns-2 : tie.Need-returns-2
 returns-2 c = sym (padded-group _ _ _ (c .before .before .before .if1 .left) (c .before .wide .ensures) 0 _ _ _ (c .if2 .taken))
 
@@ -30,9 +24,6 @@ add-value c = omega (arith, share-small _ _ _ (c .before .before .shared-slice-k
 returns-3 : tie.Need-returns-3
 returns-3 c = sym (above-group _ _ _ (c .before .before .before .before .if1 .left) (c .before .before .wide .ensures) _ _ _ (c .before .if2 .left) (c .if3 .taken))
 
-add-t8 : tie.Need-add-t8
-add-t8 c = search needs
-
 returns-4 : tie.Need-returns-4
 returns-4 c = sym (sound-group _ _ _ (c .before .before .before .before .if1 .left) (c .before .before .wide .ensures) _ _ _ (c .before .if2 .left) (c .before .before .before .before .before .before .pre .2) (c .if3 .left))
 
@@ -40,12 +31,4 @@ pub last-at-spec : {M : Type 1} → statement M
 last-at-spec =
     tie.close
     (tie.spec
-    returns
-    shared-slice-read-wide
-    wide-requires
-    returns-2
-    mul-value
-    add-value
-    returns-3
-    add-t8
-    returns-4)
+    returns (λ c. search needs) (λ c κs. search needs) returns-2 mul-value add-value returns-3 (λ c. search needs) returns-4)

@@ -12,38 +12,11 @@ returns : tie.Need-returns
 unfolding limited grouped
 returns c = rw (no-group 1 _ _ (c .if1 .taken))
 
-shared-slice-read-wide : tie.Need-shared-slice-read-wide
-shared-slice-read-wide c = search needs
-
-wide-requires : tie.Need-wide-requires
-wide-requires c κs = search needs
-
 returns-2 : tie.Need-returns-2
 returns-2 c = sym (padded-group _ _ _ (c .before .before .before .if1 .left) (c .before .wide .ensures) 1 _ 128 65535 (c .if2 .taken))
 
-mul-t9 : tie.Need-mul-t9
-mul-t9 c = search needs
-
-add-t10 : tie.Need-add-t10
-add-t10 c = search needs
-
-add-t11 : tie.Need-add-t11
-add-t11 c = search needs
-
 returns-3 : tie.Need-returns-3
 returns-3 c = sym (top-group _ _ _ (c .before .before .before .before .if1 .left) (c .before .before .wide .ensures) 1 _ 128 65535 (c .before .if2 .left) (c .if3 .taken) (omega arith))
-
-add-last-at : tie.Need-add-last-at
-add-last-at c = search needs
-
-mul-last-at : tie.Need-mul-last-at
-mul-last-at c = search needs
-
-add-last-at-2 : tie.Need-add-last-at-2
-add-last-at-2 c = search needs
-
-last-at-requires : tie.Need-last-at-requires
-last-at-requires c κs = search needs
 
 returns-4 : tie.Need-returns-4
 returns-4 c = rw (further-over _ _ _ (c .before .before .before .before .before .if1 .left) (c .before .before .before .wide .ensures) 1 _ 128 (c .before .if3 .left)) (c .last-at .ensures)
@@ -52,16 +25,5 @@ pub second-at-spec : {M : Type 1} → statement M
 second-at-spec =
     tie.close
     (tie.spec
-    returns
-    shared-slice-read-wide
-    wide-requires
-    returns-2
-    mul-t9
-    add-t10
-    add-t11
-    returns-3
-    add-last-at
-    mul-last-at
-    add-last-at-2
-    last-at-requires
-    returns-4)
+    returns (λ c. search needs) (λ c κs. search needs) returns-2 (λ c. search needs) (λ c. search needs) (λ c. search needs) returns-3
+    (λ c. search needs) (λ c. search needs) (λ c. search needs) (λ c κs. search needs) returns-4)

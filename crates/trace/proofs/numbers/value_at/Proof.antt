@@ -11,23 +11,8 @@ returns : tie.Need-returns
 unfolding limited
 returns c = rw (no-group 1 _ _ (c .if1 .taken))
 
-shared-slice-read-wide : tie.Need-shared-slice-read-wide
-shared-slice-read-wide c = search needs
-
-wide-requires : tie.Need-wide-requires
-wide-requires c κs = search needs
-
-add-t8 : tie.Need-add-t8
-add-t8 c = search needs
-
 returns-2 : tie.Need-returns-2
 returns-2 c = sym (only-group _ _ _ (c .before .before .before .if1 .left) (c .before .wide .ensures) 1 255 (c .if2 .taken) (omega arith))
-
-add-last-at : tie.Need-add-last-at
-add-last-at c = search needs
-
-last-at-requires : tie.Need-last-at-requires
-last-at-requires c κs = search needs
 
 returns-3 : tie.Need-returns-3
 returns-3 c = rw (further-group _ _ _ (c .before .before .before .before .if1 .left) (c .before .before .wide .ensures) 1 (c .before .if2 .left)) (c .last-at .ensures)
@@ -36,11 +21,4 @@ pub value-at-spec : {M : Type 1} → statement M
 value-at-spec =
     tie.close
     (tie.spec
-    returns
-    shared-slice-read-wide
-    wide-requires
-    add-t8
-    returns-2
-    add-last-at
-    last-at-requires
-    returns-3)
+    returns (λ c. search needs) (λ c κs. search needs) (λ c. search needs) returns-2 (λ c. search needs) (λ c κs. search needs) returns-3)

@@ -8,26 +8,8 @@ use Rattle.trace.proofs.RecordLaws.{filled-address}
 use Rattle.trace.proofs.records.addressed_at.Statement.{statement}
 use Rattle.trace.proofs.records.addressed_at.Tie as tie
 
-address-at-requires : tie.Need-address-at-requires
-address-at-requires c κs = search needs
-
-enum-known-address : tie.Need-enum-known-address
-enum-known-address c = search needs
-
 cast-over-address : tie.Need-cast-over-address
 cast-over-address c = omega (arith, within-limit 65535 _ _ _ (sym (c .before .before .before .address-at .ensures) ∙ c .before .address .given .1) .1)
-
-over-address-requires : tie.Need-over-address-requires
-over-address-requires c κs = search needs
-
-enum-told : tie.Need-enum-told
-enum-told c = search needs
-
-enum-told-2 : tie.Need-enum-told-2
-enum-told-2 c = search needs
-
-enum-told-3 : tie.Need-enum-told-3
-enum-told-3 c = search needs
 
 returns : tie.Need-returns
 unfolding numbered
@@ -49,14 +31,5 @@ pub addressed-at-spec : {M : Type 1} → statement M
 addressed-at-spec =
     tie.close
     (tie.spec
-    address-at-requires
-    enum-known-address
-    cast-over-address
-    over-address-requires
-    enum-told
-    enum-told-2
-    enum-told-3
-    returns
-    returns-2
-    returns-3
-    returns-4)
+    (λ c κs. search needs) (λ c. search needs) cast-over-address (λ c κs. search needs) (λ c. search needs) (λ c. search needs)
+    (λ c. search needs) returns returns-2 returns-3 returns-4)

@@ -17,26 +17,8 @@ returns-2 : tie.Need-returns-2
 unfolding filled taking
 returns-2 c = rw (c .if2 .taken)
 
-value-at-requires : tie.Need-value-at-requires
-value-at-requires c κs = search needs
-
-enum-known-value : tie.Need-enum-known-value
-enum-known-value c = search needs
-
 cast-call-over : tie.Need-cast-call-over
 cast-call-over c = omega (arith, within-limit 255 _ _ _ (sym (c .before .before .before .value-at .ensures) ∙ c .before .value .given .1) .1)
-
-call-over-requires : tie.Need-call-over-requires
-call-over-requires c κs = search needs
-
-enum-told : tie.Need-enum-told
-enum-told c = search needs
-
-enum-told-2 : tie.Need-enum-told-2
-enum-told-2 c = search needs
-
-enum-told-3 : tie.Need-enum-told-3
-enum-told-3 c = search needs
 
 returns-3 : tie.Need-returns-3
 unfolding filled numbered
@@ -58,16 +40,5 @@ pub over-address-spec : {M : Type 1} → statement M
 over-address-spec =
     tie.close
     (tie.spec
-    returns
-    returns-2
-    value-at-requires
-    enum-known-value
-    cast-call-over
-    call-over-requires
-    enum-told
-    enum-told-2
-    enum-told-3
-    returns-3
-    returns-4
-    returns-5
-    returns-6)
+    returns returns-2 (λ c κs. search needs) (λ c. search needs) cast-call-over (λ c κs. search needs) (λ c. search needs)
+    (λ c. search needs) (λ c. search needs) returns-3 returns-4 returns-5 returns-6)

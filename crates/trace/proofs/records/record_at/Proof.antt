@@ -9,18 +9,9 @@ use Rattle.trace.proofs.records.record_at.Tie as tie
 returns : tie.Need-returns
 returns c = sym (none-left _ _ (c .if1 .taken))
 
-shared-slice-read-kind : tie.Need-shared-slice-read-kind
-shared-slice-read-kind c = search needs
-
-add-t9 : tie.Need-add-t9
-add-t9 c = search needs
-
 returns-2 : tie.Need-returns-2
 unfolding filled
 returns-2 c = rw (kind-left _ _ (c .before .before .if1 .left), c .if2 .taken)
-
-add-t11 : tie.Need-add-t11
-add-t11 c = search needs
 
 returns-3 : tie.Need-returns-3
 unfolding filled
@@ -30,12 +21,6 @@ returns-4 : tie.Need-returns-4
 unfolding filled
 returns-4 c = rw (kind-left _ _ (c .before .before .before .before .if1 .left), has-none _ (c .if4 .taken))
 
-add-addressed-at : tie.Need-add-addressed-at
-add-addressed-at c = search needs
-
-addressed-at-requires : tie.Need-addressed-at-requires
-addressed-at-requires c κs = search needs
-
 returns-5 : tie.Need-returns-5
 returns-5 c = rw (kind-left _ _ (c .before .before .before .before .before .if1 .left)) (c .addressed-at .ensures)
 
@@ -43,13 +28,5 @@ pub record-at-spec : {M : Type 1} → statement M
 record-at-spec =
     tie.close
     (tie.spec
-    returns
-    shared-slice-read-kind
-    add-t9
-    returns-2
-    add-t11
-    returns-3
-    returns-4
-    add-addressed-at
-    addressed-at-requires
-    returns-5)
+    returns (λ c. search needs) (λ c. search needs) returns-2 (λ c. search needs) returns-3 returns-4 (λ c. search needs)
+    (λ c κs. search needs) returns-5)

@@ -22,12 +22,6 @@ cast-bytes c = omega (arith, c .loop-test .taken, c .before .loop .inv .size, c 
 add-bytes : tie.Need-add-bytes Inv-loop μ-loop
 add-bytes c = omega (arith, c .loop-test .taken, c .before .loop .inv .size, c .before .before .pre)
 
-slice-write-bytes : tie.Need-slice-write-bytes Inv-loop μ-loop
-slice-write-bytes c = search needs
-
-add-i : tie.Need-add-i Inv-loop μ-loop
-add-i c = search needs
-
 loop-less : tie.Need-loop-less Inv-loop μ-loop
 loop-less c = rw (length-set (c .before .loop .bytes) (c .before .loop .i) _) (omega (arith, c .loop-test .taken))
 
@@ -44,14 +38,4 @@ pub count-pages-spec : {M : Type 1} → statement M
 count-pages-spec =
     tie.close
     (tie.spec
-    Inv-loop
-    μ-loop
-    loop-holds
-    cast-bytes
-    add-bytes
-    slice-write-bytes
-    add-i
-    loop-less
-    loop-again
-    same-length
-    returns)
+    Inv-loop μ-loop loop-holds cast-bytes add-bytes (λ c. search needs) (λ c. search needs) loop-less loop-again same-length returns)

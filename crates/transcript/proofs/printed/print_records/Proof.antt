@@ -21,50 +21,17 @@ abbrev μ-loop : tie.MeasureT-loop
 loop-holds : tie.Need-loop-holds Inv-loop μ-loop
 loop-holds c = (begins _ _ _ _ (c .before .before .before .pre), refl)
 
-record-at-requires : tie.Need-record-at-requires Inv-loop μ-loop
-record-at-requires c κs = search needs
-
-enum-told : tie.Need-enum-told Inv-loop μ-loop
-enum-told c = search needs
-
 cast-end-line : tie.Need-cast-end-line Inv-loop μ-loop
 cast-end-line c = omega (arith, c .before .before .before .before .loop .inv .0 .counted, c .before .before .before .before .loop .inv .0 .inside, c .before .before .before .before .loop .inv .0 .short)
-
-end-line-requires : tie.Need-end-line-requires Inv-loop μ-loop
-end-line-requires c κs = search needs
-
-enum-known-found : tie.Need-enum-known-found Inv-loop μ-loop
-enum-known-found c = search needs
 
 cast-unreadable-line : tie.Need-cast-unreadable-line Inv-loop μ-loop
 cast-unreadable-line c = omega (arith, c .before .before .before .before .before .loop .inv .0 .counted, c .before .before .before .before .before .loop .inv .0 .inside, c .before .before .before .before .before .loop .inv .0 .short)
 
-unreadable-line-requires : tie.Need-unreadable-line-requires Inv-loop μ-loop
-unreadable-line-requires c κs = search needs
-
-enum-known-found-2 : tie.Need-enum-known-found-2 Inv-loop μ-loop
-enum-known-found-2 c = search needs
-
-kind-of-requires : tie.Need-kind-of-requires Inv-loop μ-loop
-kind-of-requires c κs = search needs
-
-stopped-at-requires : tie.Need-stopped-at-requires Inv-loop μ-loop
-stopped-at-requires c κs = search needs
-
-why-of-requires : tie.Need-why-of-requires Inv-loop μ-loop
-why-of-requires c κs = search needs
-
 cast-refused-line : tie.Need-cast-refused-line Inv-loop μ-loop
 cast-refused-line c = omega (arith, c .before .before .before .before .before .before .before .before .before .loop .inv .0 .counted, c .before .before .before .before .before .before .before .before .before .loop .inv .0 .inside, c .before .before .before .before .before .before .before .before .before .loop .inv .0 .short)
 
-refused-line-requires : tie.Need-refused-line-requires Inv-loop μ-loop
-refused-line-requires c κs = search needs
-
 mul-byte : tie.Need-mul-byte Inv-loop μ-loop
 mul-byte c = omega (arith, c .before .before .before .before .before .before .before .loop .inv .0 .counted, c .before .before .before .before .before .before .before .loop .inv .0 .inside, c .before .before .before .before .before .before .before .loop .inv .0 .short)
-
-byte-requires : tie.Need-byte-requires Inv-loop μ-loop
-byte-requires c κs = search needs
 
 mul-byte-2 : tie.Need-mul-byte-2 Inv-loop μ-loop
 mul-byte-2 c = omega (arith, c .before .before .before .before .before .before .before .before .loop .inv .0 .counted, c .before .before .before .before .before .before .before .before .loop .inv .0 .inside, c .before .before .before .before .before .before .before .before .loop .inv .0 .short)
@@ -72,14 +39,8 @@ mul-byte-2 c = omega (arith, c .before .before .before .before .before .before .
 add-byte : tie.Need-add-byte Inv-loop μ-loop
 add-byte c = omega (arith, c .before .before .before .before .before .before .before .before .loop .inv .0 .counted, c .before .before .before .before .before .before .before .before .loop .inv .0 .inside, c .before .before .before .before .before .before .before .before .loop .inv .0 .short)
 
-byte-requires-2 : tie.Need-byte-requires-2 Inv-loop μ-loop
-byte-requires-2 c κs = search needs
-
 cast-logged-line : tie.Need-cast-logged-line Inv-loop μ-loop
 cast-logged-line c = omega (arith, c .before .before .before .before .before .before .before .before .before .before .loop .inv .0 .counted, c .before .before .before .before .before .before .before .before .before .before .loop .inv .0 .inside, c .before .before .before .before .before .before .before .before .before .before .loop .inv .0 .short)
-
-logged-line-requires : tie.Need-logged-line-requires Inv-loop μ-loop
-logged-line-requires c κs = search needs
 
 add-n : tie.Need-add-n Inv-loop μ-loop
 add-n c = omega (arith, c .before .before .before .before .before .before .before .before .before .before .before .before .before .loop .inv .0 .counted, c .before .before .before .before .before .before .before .before .before .before .before .before .before .loop .inv .0 .inside, c .before .before .before .before .before .before .before .before .before .before .before .before .before .loop .inv .0 .short)
@@ -90,20 +51,11 @@ loop-less c = omega (arith, record-advances _ _ _ _ (sym (c .before .before .bef
 loop-again : tie.Need-loop-again Inv-loop μ-loop
 loop-again c = (goes _ _ _ _ _ _ _ _ _ _ (sym (c .before .before .before .before .before .before .before .before .before .before .before .before .record-at .ensures) ∙ c .before .before .before .before .before .before .before .before .before .before .found2 .given .1) _ _ _ _ _ (c .before .before .before .before .before .before .before .before .kind-of .ensures) (c .before .before .before .before .before .byte .ensures) (c .before .before .before .before .byte2 .ensures) (c .before .before .before .before .before .before .before .before .before .before .before .before .before .loop .inv .0) (sym (c .before .before .before .before .before .before .before .stopped-at .ensures) ∙ c .before .before .before .before .before .before .if1 .left) (c .before .before .logged-line .ensures), search needs)
 
-same-length : tie.Need-same-length Inv-loop μ-loop
-same-length c = search needs
-
 returns : tie.Need-returns Inv-loop μ-loop
 returns c = ends _ _ _ _ _ _ _ _ _ (c .before .before .before .before .before .before .before .loop .inv .0) (sym (c .before .before .before .before .before .before .record-at .ensures) ∙ c .before .before .before .before .enum-told .given .1) (c .before .before .end-line .ensures)
 
-same-length-2 : tie.Need-same-length-2 Inv-loop μ-loop
-same-length-2 c = search needs
-
 returns-2 : tie.Need-returns-2 Inv-loop μ-loop
 returns-2 c = unreadable _ _ _ _ _ _ _ _ _ _ (c .before .before .before .before .before .before .before .before .loop .inv .0) (sym (c .before .before .before .before .before .before .before .record-at .ensures) ∙ c .before .before .before .before .before .found .given .1) (c .before .before .unreadable-line .ensures)
-
-same-length-3 : tie.Need-same-length-3 Inv-loop μ-loop
-same-length-3 c = search needs
 
 returns-3 : tie.Need-returns-3 Inv-loop μ-loop
 returns-3 c = refused _ _ _ _ _ _ _ _ _ _ (sym (c .before .before .before .before .before .before .before .before .before .before .before .record-at .ensures) ∙ c .before .before .before .before .before .before .before .before .before .found2 .given .1) _ (c .before .before .before .before .before .before .before .before .before .before .before .before .loop .inv .0) (sym (c .before .before .before .before .before .before .stopped-at .ensures) ∙ c .before .before .before .before .before .if1 .taken) (rw (← c .before .before .before .before .before .before .before .kind-of .ensures, ← c .before .before .before .before .why-of .ensures) (c .before .before .refused-line .ensures))
@@ -112,35 +64,8 @@ pub print-records-spec : {M : Type 1} → statement M
 print-records-spec =
     tie.close
     (tie.spec
-    Inv-loop
-    μ-loop
-    loop-holds
-    record-at-requires
-    enum-told
-    cast-end-line
-    end-line-requires
-    enum-known-found
-    cast-unreadable-line
-    unreadable-line-requires
-    enum-known-found-2
-    kind-of-requires
-    stopped-at-requires
-    why-of-requires
-    cast-refused-line
-    refused-line-requires
-    mul-byte
-    byte-requires
-    mul-byte-2
-    add-byte
-    byte-requires-2
-    cast-logged-line
-    logged-line-requires
-    add-n
-    loop-less
-    loop-again
-    same-length
-    returns
-    same-length-2
-    returns-2
-    same-length-3
+    Inv-loop μ-loop loop-holds (λ c κs. search needs) (λ c. search needs) cast-end-line (λ c κs. search needs) (λ c. search needs)
+    cast-unreadable-line (λ c κs. search needs) (λ c. search needs) (λ c κs. search needs) (λ c κs. search needs) (λ c κs. search needs)
+    cast-refused-line (λ c κs. search needs) mul-byte (λ c κs. search needs) mul-byte-2 add-byte (λ c κs. search needs) cast-logged-line
+    (λ c κs. search needs) add-n loop-less loop-again (λ c. search needs) returns (λ c. search needs) returns-2 (λ c. search needs)
     returns-3)

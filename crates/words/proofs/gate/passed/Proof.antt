@@ -6,20 +6,8 @@ use Rattle.words.proofs.GateLaws.{opens, no-state, not-loaded, other-le
 use Rattle.words.proofs.gate.passed.Statement.{statement}
 use Rattle.words.proofs.gate.passed.Tie as tie
 
-lengths-of-requires : tie.Need-lengths-of-requires
-lengths-of-requires c κs = search needs
-
-same-lengths-requires : tie.Need-same-lengths-requires
-same-lengths-requires c κs = search needs
-
-words-in-range-requires : tie.Need-words-in-range-requires
-words-in-range-requires c κs = search needs
-
 returns : tie.Need-returns
 returns c = opens (wordsAt (c .before .before .before .before .args .bytes .now) (c .before .before .before .before .args .halves .now) (c .before .before .before .before .args .wide .now) [] [] (c .before .before .before .before .args .«prg-pages» .now) (c .before .before .before .before .args .«chr-pages» .now)) _ _ _ _ _ _ _ _ (c .before .before .before .lengths-of .ensures) (c .before .before .same-lengths .ensures) (c .before .words-in-range .ensures) (c .if1 .taken)
-
-is-good-requires : tie.Need-is-good-requires
-is-good-requires c κs = search needs
 
 returns-2 : tie.Need-returns-2
 returns-2 c = no-state (wordsAt (c .before .before .before .before .before .before .args .bytes .now) (c .before .before .before .before .before .before .args .halves .now) (c .before .before .before .before .before .before .args .wide .now) [] [] (c .before .before .before .before .before .before .args .«prg-pages» .now) (c .before .before .before .before .before .before .args .«chr-pages» .now)) _ _ _ _ _ _ _ _ (c .before .before .before .before .before .lengths-of .ensures) (c .before .before .before .before .same-lengths .ensures) (c .before .before .before .words-in-range .ensures) _ (c .before .is-good .ensures) (c .if2 .taken)
@@ -37,12 +25,5 @@ pub passed-spec : {M : Type 1} → statement M
 passed-spec =
     tie.close
     (tie.spec
-    lengths-of-requires
-    same-lengths-requires
-    words-in-range-requires
-    returns
-    is-good-requires
-    returns-2
-    returns-3
-    returns-4
+    (λ c κs. search needs) (λ c κs. search needs) (λ c κs. search needs) returns (λ c κs. search needs) returns-2 returns-3 returns-4
     returns-5)

@@ -19,21 +19,6 @@ abbrev μ-loop : tie.MeasureT-loop
 loop-holds : tie.Need-loop-holds Inv-loop μ-loop
 loop-holds c = test-first _ _
 
-mul-n : tie.Need-mul-n Inv-loop μ-loop
-mul-n c = search needs
-
-element-copy-out-n : tie.Need-element-copy-out-n Inv-loop μ-loop
-element-copy-out-n c = search needs
-
-chr-word-ok-requires : tie.Need-chr-word-ok-requires Inv-loop μ-loop
-chr-word-ok-requires c κs = search needs
-
-add-i : tie.Need-add-i Inv-loop μ-loop
-add-i c = search needs
-
-loop-less : tie.Need-loop-less Inv-loop μ-loop
-loop-less c = search needs
-
 loop-again : tie.Need-loop-again Inv-loop μ-loop
 loop-again c = numbers-next _ (c .before .before .before .before .args .numbers .now) _ _ 16 _ (c .before .before .before .loop .inv) (c .before .before .loop-test .taken) (search needs) (c .chr-word-ok .ensures)
 
@@ -44,13 +29,5 @@ pub chr-numbers-ok-spec : {M : Type 1} → statement M
 chr-numbers-ok-spec =
     tie.close
     (tie.spec
-    Inv-loop
-    μ-loop
-    loop-holds
-    mul-n
-    element-copy-out-n
-    chr-word-ok-requires
-    add-i
-    loop-less
-    loop-again
-    returns)
+    Inv-loop μ-loop loop-holds (λ c. search needs) (λ c. search needs) (λ c κs. search needs) (λ c. search needs) (λ c. search needs)
+    loop-again returns)

@@ -14,30 +14,9 @@ abbrev μ-loop : tie.MeasureT-loop
 loop-holds : tie.Need-loop-holds Inv-loop μ-loop
 loop-holds c = furthest-first (c .args .«prg-len») (c .args .«ram-len») (c .pre .0) (c .pre .1 .0) (c .args .numbers .now)
 
-mul-n : tie.Need-mul-n Inv-loop μ-loop
-mul-n c = search needs
-
-element-copy-out-n : tie.Need-element-copy-out-n Inv-loop μ-loop
-element-copy-out-n c = search needs
-
-prg-place-requires : tie.Need-prg-place-requires Inv-loop μ-loop
-prg-place-requires c κs = search needs
-
-larger-requires : tie.Need-larger-requires Inv-loop μ-loop
-larger-requires c κs = search needs
-
-add-i : tie.Need-add-i Inv-loop μ-loop
-add-i c = search needs
-
-loop-less : tie.Need-loop-less Inv-loop μ-loop
-loop-less c = search needs
-
 loop-again : tie.Need-loop-again Inv-loop μ-loop
 loop-again c =
     furthest-next _ _ (c .before .before .before .before .before .pre .0) (c .before .before .before .before .before .pre .1 .0) (c .before .before .before .before .before .args .numbers .now) _ _ _ _ (c .before .before .before .before .loop .inv) (c .before .before .before .loop-test .taken) (c .before .before .before .before .before .pre .1 .1) (c .before .prg-place .ensures .1) (c .before .prg-place .ensures .0) (c .larger .ensures)
-
-prg-places-requires : tie.Need-prg-places-requires Inv-loop μ-loop
-prg-places-requires c κs = search needs
 
 returns : tie.Need-returns Inv-loop μ-loop
 returns c = furthest-last _ _ (c .before .before .before .pre .0) (c .before .before .before .pre .1 .0) (c .before .before .before .args .numbers .now) _ _ _ (c .before .before .loop .inv) (c .before .loop-test .left) (c .before .before .before .pre .1 .1) (c .prg-places .ensures)
@@ -46,15 +25,5 @@ pub prg-numbers-ok-spec : {M : Type 1} → statement M
 prg-numbers-ok-spec =
     tie.close
     (tie.spec
-    Inv-loop
-    μ-loop
-    loop-holds
-    mul-n
-    element-copy-out-n
-    prg-place-requires
-    larger-requires
-    add-i
-    loop-less
-    loop-again
-    prg-places-requires
-    returns)
+    Inv-loop μ-loop loop-holds (λ c. search needs) (λ c. search needs) (λ c κs. search needs) (λ c κs. search needs) (λ c. search needs)
+    (λ c. search needs) loop-again (λ c κs. search needs) returns)

@@ -12,30 +12,12 @@ Inv-loop bytes largest₀ i₀ largest i = (Largest bytes largest i) × (i ≤ 1
 abbrev μ-loop : tie.MeasureT-loop
 μ-loop bytes largest₀ i₀ largest i = 15 - i
 
-thirty-three-requires : tie.Need-thirty-three-requires Inv-loop μ-loop
-thirty-three-requires c κs = search needs
-
 loop-holds : tie.Need-loop-holds Inv-loop μ-loop
 loop-holds c = (largest-first (c .before .before .args .bytes .now), omega arith)
-
-element-copy-out-flag : tie.Need-element-copy-out-flag Inv-loop μ-loop
-element-copy-out-flag c = search needs
-
-larger-requires : tie.Need-larger-requires Inv-loop μ-loop
-larger-requires c κs = search needs
-
-add-i : tie.Need-add-i Inv-loop μ-loop
-add-i c = search needs
-
-loop-less : tie.Need-loop-less Inv-loop μ-loop
-loop-less c = search needs
 
 loop-again : tie.Need-loop-again Inv-loop μ-loop
 loop-again c =
     (largest-next (c .before .before .before .before .before .before .args .bytes .now) _ _ _ (c .before .before .before .loop .inv .0) (c .before .before .loop-test .taken) (c .before .before .before .before .thirty-three .ensures) (c .larger .ensures), omega (arith, c .before .before .loop-test .taken))
-
-element-copy-out-result : tie.Need-element-copy-out-result Inv-loop μ-loop
-element-copy-out-result c = search needs
 
 returns : tie.Need-returns Inv-loop μ-loop
 returns c = largest-last (c .before .before .before .before .before .args .bytes .now) (c .before .before .loop .largest) _ (c .before .before .loop .inv .0) (c .before .loop-test .left) (c .before .before .loop .inv .1) (c .before .before .before .thirty-three .ensures)
@@ -44,14 +26,5 @@ pub is-good-spec : {M : Type 1} → statement M
 is-good-spec =
     tie.close
     (tie.spec
-    Inv-loop
-    μ-loop
-    thirty-three-requires
-    loop-holds
-    element-copy-out-flag
-    larger-requires
-    add-i
-    loop-less
-    loop-again
-    element-copy-out-result
-    returns)
+    Inv-loop μ-loop (λ c κs. search needs) loop-holds (λ c. search needs) (λ c κs. search needs) (λ c. search needs) (λ c. search needs)
+    loop-again (λ c. search needs) returns)

@@ -17,24 +17,6 @@ abbrev μ-loop : tie.MeasureT-loop
 loop-holds : tie.Need-loop-holds Inv-loop μ-loop
 loop-holds c = map-first _ _ _ (search needs)
 
-mul-t7 : tie.Need-mul-t7 Inv-loop μ-loop
-mul-t7 c = search needs
-
-array-read-t10 : tie.Need-array-read-t10 Inv-loop μ-loop
-array-read-t10 c = search needs
-
-mul-pages : tie.Need-mul-pages Inv-loop μ-loop
-mul-pages c = search needs
-
-array-set-from-pages : tie.Need-array-set-from-pages Inv-loop μ-loop
-array-set-from-pages c = search needs
-
-add-i : tie.Need-add-i Inv-loop μ-loop
-add-i c = search needs
-
-loop-less : tie.Need-loop-less Inv-loop μ-loop
-loop-less c = search needs
-
 loop-again : tie.Need-loop-again Inv-loop μ-loop
 loop-again c = map-next _ _ _ _ 0 _ (c .before .loop .inv) (search needs) refl
 
@@ -45,14 +27,5 @@ pub prg-table-spec : {M : Type 1} → statement M
 prg-table-spec =
     tie.close
     (tie.spec
-    Inv-loop
-    μ-loop
-    loop-holds
-    mul-t7
-    array-read-t10
-    mul-pages
-    array-set-from-pages
-    add-i
-    loop-less
-    loop-again
-    returns)
+    Inv-loop μ-loop loop-holds (λ c. search needs) (λ c. search needs) (λ c. search needs) (λ c. search needs) (λ c. search needs)
+    (λ c. search needs) loop-again returns)

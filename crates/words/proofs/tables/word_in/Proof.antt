@@ -6,14 +6,8 @@ use borrow.Author.Needs.{needs}
 use Rattle.words.proofs.tables.word_in.Statement.{statement}
 use Rattle.words.proofs.tables.word_in.Tie as tie
 
-mul-n : tie.Need-mul-n
-mul-n c = search needs
-
-shared-slice-read-n : tie.Need-shared-slice-read-n
-shared-slice-read-n c = search needs
-
 returns : tie.Need-returns
 returns c = sym (List·getD-map word (c .before .args .numbers .now) _ 0)
 
 pub word-in-spec : {M : Type 1} → statement M
-word-in-spec = tie.close (tie.spec mul-n shared-slice-read-n returns)
+word-in-spec = tie.close (tie.spec (λ c. search needs) (λ c. search needs) returns)
