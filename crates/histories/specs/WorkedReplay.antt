@@ -25,8 +25,9 @@ pub record WorkedReplay : Type 0 where
   pub ending : replayOver worked .out .ending ≡ Done 6
   -- `M 24`, `-`, `R 249`, `R 6`, `-`, `M 0`, each a letter and a value; the interrupt is down
   pub log : replayOver worked .log ≡ 0x4D ∷ 24 ∷ 0x2D ∷ 0 ∷ 0x52 ∷ 249 ∷ 0x52 ∷ 6 ∷ 0x2D ∷ 0 ∷ 0x4D ∷ 0 ∷ 0 ∷ 0 ∷ []
-  -- a clock, then a read of $5010: refused by its number at its place, and the clock after it is not played
-  pub refused : replayOver (0 ∷ 1 ∷ 144 ∷ 160 ∷ 1 ∷ 0 ∷ []) .out .ending ≡ Stopped 1 Audio
-  pub not-played : replayOver (0 ∷ 1 ∷ 144 ∷ 160 ∷ 1 ∷ 0 ∷ []) .log ≡ 0x2D ∷ 0 ∷ 0 ∷ 0 ∷ 0 ∷ 0 ∷ 0 ∷ 0 ∷ 0 ∷ 0 ∷ 0 ∷ 0 ∷ 0 ∷ 0 ∷ []
-  -- a clock, then a read whose address is cut
-  pub unreadable : replayOver (0 ∷ 1 ∷ 144 ∷ []) .out .ending ≡ Stopped 1 Number
+  -- a read of $0000, a record of two bytes, then one of $5010: refused by its number at its place, 2, which is not its record's number, 1;
+  -- the clock after it is not played
+  pub refused : replayOver (1 ∷ 0 ∷ 1 ∷ 144 ∷ 160 ∷ 1 ∷ 0 ∷ []) .out .ending ≡ Stopped 2 Audio
+  pub not-played : replayOver (1 ∷ 0 ∷ 1 ∷ 144 ∷ 160 ∷ 1 ∷ 0 ∷ []) .log ≡ 0x42 ∷ 0 ∷ 0 ∷ 0 ∷ 0 ∷ 0 ∷ 0 ∷ 0 ∷ 0 ∷ 0 ∷ 0 ∷ 0 ∷ 0 ∷ 0 ∷ []
+  -- the same read, then a read whose address is cut
+  pub unreadable : replayOver (1 ∷ 0 ∷ 1 ∷ 144 ∷ []) .out .ending ≡ Stopped 2 Number
