@@ -16,6 +16,7 @@ use Rattle.lines.specs.Machine.{step, Watched, atLoad, tilesBy, watched}
 use Rattle.lines.specs.Promise.{historyOf, LedTo as Seen}
 use Rattle.lines.specs.Promise.Played.{at-load, taken}
 use Rattle.promises.proofs.Promised.{gate-stays-open}
+use Rattle.player.proofs.Steps.{call-open}
 use Rattle.histories.specs.Boards.{Board, Made, says, leaves, number}
 use Rattle.histories.specs.Boards.Made.{call, peek, ppu-peek, sprite-peek, mirroring-asked, interrupt-asked, cpu-page, ppu-page}
 use Rattle.histories.specs.Histories.{Load, first, Leads, Reached, event}
@@ -29,13 +30,7 @@ Opened b = gateMem (b .state) (b .mem) ≡ Open
 
 stays-open : (b : Board) (c : Made) → Opened b → Opened (leaves b c)
 unfolding leaves
-stays-open b (call Clock) h = gate-stays-open .clock (b .state) (b .mem) h
-stays-open b (call (CpuRead a)) h = gate-stays-open .read (b .state) (b .mem) (a .0) h
-stays-open b (call (CpuWrite a v)) h = gate-stays-open .write (b .state) (b .mem) (a .0) v h
-stays-open b (call (PpuRegister a v)) h = gate-stays-open .register (b .state) (b .mem) (a .0) v h
-stays-open b (call (PpuFetch a)) h = gate-stays-open .fetch (b .state) (b .mem) (a .0) h
-stays-open b (call Reset) h = gate-stays-open .reset (b .state) (b .mem) h
-stays-open b (call (PpuWrite a v)) h = gate-stays-open .ppu-write (b .state) (b .mem) (a .0) v h
+stays-open b (call c) h = call-open c (b .state) (b .mem) h
 stays-open b (peek a) h = h
 stays-open b (ppu-peek a) h = h
 stays-open b (sprite-peek a) h = h

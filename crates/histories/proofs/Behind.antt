@@ -75,12 +75,12 @@ unfetched s m a h free =
 -- Behind an open gate.
 pub is-done : (b : Board) (c : Call) → gateMem (b .state) (b .mem) ≡ Open → refusal (watch b) (call c) ≡ 0 → called c (b .state) (b .mem) ≡ done c (b .state) (b .mem)
 unfolding refusal clockCall cpuRead cpuWrite ppuRegisterCall resetCall ppuWrite
-is-done b Clock h e = rw (in-range-of (b .state) (b .mem) h)
+is-done b Clock h e = rw (h, in-range-of (b .state) (b .mem) h)
 is-done b (CpuRead a) h e = rw (h, unmet (audioRead (a .0)) 5 e)
 is-done b (CpuWrite a v) h e = rw (h, unmet (audioWrite (a .0)) 5 e)
-is-done b (PpuRegister a v) h e = rw (in-range-of (b .state) (b .mem) h)
+is-done b (PpuRegister a v) h e = rw (h, in-range-of (b .state) (b .mem) h)
 is-done b (PpuFetch a) h e = rw (unfetched (b .state) (b .mem) (a .0) h (unmet (counterRefused (b .state .irq) (b .state .ppu .«tile_number») (a .0)) 6 e))
-is-done b Reset h e = rw (in-range-of (b .state) (b .mem) h)
+is-done b Reset h e = rw (h, in-range-of (b .state) (b .mem) h)
 is-done b (PpuWrite a v) h e = rw h
 
 -- The numbers of answers.
@@ -133,18 +133,18 @@ read-exactly s m a h =
 -- Behind an open gate a call gives 6 or 7, or none, as the definition says.
 pub exactly : (b : Board) (c : Made) → gateMem (b .state) (b .mem) ≡ Open → number (says b c) ≡ refusal (watch b) c
 unfolding refusal says number
-exactly b (call Clock) h = nothing (clockCall (b .state) .answer) (who-is-refused .clock (b .state) (in-range-of (b .state) (b .mem) h))
+exactly b (call Clock) h = rw h (nothing (clockCall (b .state) .answer) (who-is-refused .clock (b .state) (in-range-of (b .state) (b .mem) h)))
 exactly b (call (CpuRead a)) h = read-exactly (b .state) (b .mem) (a .0) h
 exactly b (call (CpuWrite a v)) h =
     split (audioWrite (a .0))
     (λ t. rw t (with-number 6 (b .state) (cpuWrite (b .state) (b .mem) (a .0) v .out) (who-is-refused .write-audio (b .state) (b .mem) (a .0) v h t)))
     (λ t. rw t (nothing (cpuWrite (b .state) (b .mem) (a .0) v .out .answer) (who-is-refused .write-else (b .state) (b .mem) (a .0) v h t)))
-exactly b (call (PpuRegister a v)) h = nothing (ppuRegisterCall (b .state) (a .0) v .answer) (who-is-refused .register (b .state) (a .0) v (in-range-of (b .state) (b .mem) h))
+exactly b (call (PpuRegister a v)) h = rw h (nothing (ppuRegisterCall (b .state) (a .0) v .answer) (who-is-refused .register (b .state) (a .0) v (in-range-of (b .state) (b .mem) h)))
 exactly b (call (PpuFetch a)) h =
     split (counterRefused (b .state .irq) (b .state .ppu .«tile_number») (a .0))
     (λ t. rw t (with-number 7 (b .state) (ppuFetch (b .state) (b .mem) (a .0)) (who-is-refused .fetch-counter (b .state) (b .mem) (a .0) h t)))
     (λ t. rw t (given (ppuFetch (b .state) (b .mem) (a .0) .answer) (who-is-refused .fetch-else (b .state) (b .mem) (a .0) h t)))
-exactly b (call Reset) h = nothing (resetCall (b .state) .answer) (who-is-refused .reset (b .state) (in-range-of (b .state) (b .mem) h))
+exactly b (call Reset) h = rw h (nothing (resetCall (b .state) .answer) (who-is-refused .reset (b .state) (in-range-of (b .state) (b .mem) h)))
 exactly b (call (PpuWrite a v)) h = nothing (ppuWrite (b .state) (b .mem) (a .0) v .out .answer) (who-is-refused .ppu-write (b .state) (b .mem) (a .0) v h)
 exactly b (peek a) h = rw (who-is-refused .peek (b .state) (b .mem) (a .0)) (read-exactly (b .state) (b .mem) (a .0) h)
 exactly b (ppu-peek a) h = given (ppuPeek (b .state) (b .mem) (a .0)) (who-is-refused .ppu-peek (b .state) (b .mem) (a .0) h)
@@ -165,34 +165,20 @@ Passed b c = (called c (b .state) (b .mem) ≡ done c (b .state) (b .mem)) × (r
 through : (b : Board) (c : Call) → number (says b (call c)) ≡ 0 → gateMem (b .state) (b .mem) ≡ Open → Passed b c
 through b c n h = let e : refusal (watch b) (call c) ≡ 0 = sym (exactly b (call c) h) ∙ n in (is-done b c h e, e)
 
--- From what is accepted: the gate was open, or the state in range.
-module _ (s : State) (m : Mem) (a : ℕ) where
-  read-opens : numberIn (cpuRead s m a .answer) ≡ 0 → gateMem s m ≡ Open
-  unfolding cpuRead
-  read-opens n = gate-case (gateMem s m) (λ o. o) (λ r h. numbered r (rw h at n))
+-- At a shut gate every call is its refusal, and changes nothing.
+pub shut-refuses : (c : Call) (s : State) (m : Mem) (r : Refusal) → gateMem s m ≡ Shut r → called c s m ≡ afterOf (refused s r) m
+unfolding cpuRead cpuWrite ppuFetch ppuWrite
+shut-refuses Clock s m r h = rw h
+shut-refuses (CpuRead a) s m r h = rw h
+shut-refuses (CpuWrite a v) s m r h = rw h
+shut-refuses (PpuRegister a v) s m r h = rw h
+shut-refuses (PpuFetch a) s m r h = rw h
+shut-refuses Reset s m r h = rw h
+shut-refuses (PpuWrite a v) s m r h = rw h
 
-  fetch-opens : numberIn (ppuFetch s m a .answer) ≡ 0 → gateMem s m ≡ Open
-  unfolding ppuFetch
-  fetch-opens n = gate-case (gateMem s m) (λ o. o) (λ r h. numbered r (rw h at n))
-
-  write-opens : (v : ℕ) → numberIn (cpuWrite s m a v .out .answer) ≡ 0 → gateMem s m ≡ Open
-  unfolding cpuWrite
-  write-opens v n = gate-case (gateMem s m) (λ o. o) (λ r h. numbered r (rw h at n))
-
-  store-opens : (v : ℕ) → numberIn (ppuWrite s m a v .out .answer) ≡ 0 → gateMem s m ≡ Open
-  unfolding ppuWrite
-  store-opens v n = gate-case (gateMem s m) (λ o. o) (λ r h. numbered r (rw h at n))
-
-alone : (b : Bool) {x : Outcome} (s : State) → numberIn (pick (not b) (refused s StateBroken) x .answer) ≡ 0 → pick (not b) (refused s StateBroken) x ≡ x
-alone true s n = refl
-alone false s n = numbered StateBroken n
+pub says-shut : (b : Board) (c : Call) (r : Refusal) → gateMem (b .state) (b .mem) ≡ Shut r → number (says b (call c)) ≡ numberOf r
+unfolding says number
+says-shut b c r h = ap (λ (x : After). numberIn (x .out .answer)) (shut-refuses c (b .state) (b .mem) r h)
 
 pub accepted-passes : (b : Board) (c : Call) → number (says b (call c)) ≡ 0 → Passed b c
-unfolding says number refusal clockCall ppuRegisterCall resetCall
-accepted-passes b Clock n = (ap (λ (o : Outcome). afterOf o (b .mem)) (alone (inRange (b .state)) (b .state) n), refl)
-accepted-passes b (CpuRead a) n = through b (CpuRead a) n (read-opens (b .state) (b .mem) (a .0) n)
-accepted-passes b (CpuWrite a v) n = through b (CpuWrite a v) n (write-opens (b .state) (b .mem) (a .0) v n)
-accepted-passes b (PpuRegister a v) n = (ap (λ (o : Outcome). afterOf o (b .mem)) (alone (inRange (b .state)) (b .state) n), refl)
-accepted-passes b (PpuFetch a) n = through b (PpuFetch a) n (fetch-opens (b .state) (b .mem) (a .0) n)
-accepted-passes b Reset n = (ap (λ (o : Outcome). afterOf o (b .mem)) (alone (inRange (b .state)) (b .state) n), refl)
-accepted-passes b (PpuWrite a v) n = through b (PpuWrite a v) n (store-opens (b .state) (b .mem) (a .0) v n)
+accepted-passes b c n = gate-case (gateMem (b .state) (b .mem)) (through b c n) (λ r h. numbered r (sym (says-shut b c r h) ∙ n))

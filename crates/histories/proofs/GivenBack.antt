@@ -16,12 +16,8 @@ use Rattle.state.specs.Gate.{gateOf, gateMem}
 use Rattle.state.specs.Ranges.{inRange}
 use Rattle.cpu.specs.Reads.{audioRead}
 use Rattle.cpu.specs.Writes.{audioWrite}
-use Rattle.board.specs.declared.Outcome.{Outcome}
-use Rattle.board.specs.Outcomes.{refused, After, afterOf}
-use Rattle.board.specs.CpuSide.{cpuRead, cpuWrite}
-use Rattle.board.specs.Whole.{resetCall, clockCall, ppuRegisterCall, mirroringCall, interruptCall}
-use Rattle.board_ppu.specs.Fetch.{ppuFetch}
-use Rattle.board_ppu.specs.Peeks.{ppuWrite}
+use Rattle.board.specs.Outcomes.{After}
+use Rattle.board.specs.Whole.{mirroringCall, interruptCall}
 use Rattle.trace.specs.declared.Call.the-variants.{Clock, CpuRead, CpuWrite, PpuRegister, PpuFetch, Reset, PpuWrite}
 use Rattle.calls.specs.Called.{called}
 use Rattle.promises.proofs.Promised.{who-is-refused}
@@ -29,7 +25,7 @@ use Rattle.histories.specs.Boards.{Board, Made, says, leaves, number, nu
 use Rattle.histories.specs.Boards.Made.{call, peek, ppu-peek, sprite-peek, mirroring-asked, interrupt-asked, cpu-page, ppu-page}
 use Rattle.histories.specs.Accepted.{watch, refusal}
 use Rattle.histories.specs.Refusals.{lentAsRecorded, overBuffers, alone, given, Refusals}
-use Rattle.histories.proofs.Behind.{gate-case, exactly, nothing, told, with-number}
+use Rattle.histories.proofs.Behind.{gate-case, exactly, told, shut-refuses, says-shut}
 
 abbrev Opened : Board → Type 0
 Opened b = gateMem (b .state) (b .mem) ≡ Open
@@ -56,36 +52,16 @@ over-gate b c own f k =
     (λ h. f h ∙ ap (λ (g : Gate). gated g own) (sym h) ∙ by-gate b own)
     (λ r h. k r h ∙ ap (λ (g : Gate). gated g own) (sym h) ∙ by-gate b own)
 
--- At a shut gate a call gives the gate's number, and changes nothing.
-says-refused : (o : Outcome) (s : State) (r : Refusal) → o ≡ refused s r → numberIn (o .answer) ≡ numberOf r
-says-refused o s r e = rw e
-
--- Calls on the state alone.
+-- Questions to the state alone.
 by-range : (b : Board) (c : Made) → (inRange (b .state) ≡ true → number (says b c) ≡ 0) → (inRange (b .state) ≡ false → number (says b c) ≡ 5) → number (says b c) ≡ alone b
 by-range b c f k = split (inRange (b .state)) (λ t. f t ∙ rw t) (λ t. k t ∙ rw t)
 
 is-given : (b : Board) (c : Made) → number (says b c) ≡ given b c
 unfolding says number given refusal mirroringCall interruptCall
-is-given b (call Clock) =
-    by-range b (call Clock) (λ t. nothing (clockCall (b .state) .answer) (who-is-refused .clock (b .state) t)) (λ t. with-number 5 (b .state) (clockCall (b .state)) (who-is-refused .clock-broken (b .state) t))
-is-given b (call (CpuRead a)) =
-    over-gate b (call (CpuRead a)) _ (exactly b (call (CpuRead a))) (λ r h. says-refused (cpuRead (b .state) (b .mem) (a .0)) (b .state) r (who-is-refused .read-shut (b .state) (b .mem) (a .0) r h))
-is-given b (call (CpuWrite a v)) =
-    over-gate b (call (CpuWrite a v)) _ (exactly b (call (CpuWrite a v)))
-    (λ r h. says-refused (cpuWrite (b .state) (b .mem) (a .0) v .out) (b .state) r (ap (λ (x : After). x .out) (who-is-refused .write-shut (b .state) (b .mem) (a .0) v r h)))
-is-given b (call (PpuRegister a v)) =
-    by-range b (call (PpuRegister a v)) (λ t. nothing (ppuRegisterCall (b .state) (a .0) v .answer) (who-is-refused .register (b .state) (a .0) v t))
-    (λ t. with-number 5 (b .state) (ppuRegisterCall (b .state) (a .0) v) (who-is-refused .register-broken (b .state) (a .0) v t))
-is-given b (call (PpuFetch a)) =
-    over-gate b (call (PpuFetch a)) _ (exactly b (call (PpuFetch a))) (λ r h. says-refused (ppuFetch (b .state) (b .mem) (a .0)) (b .state) r (who-is-refused .fetch-shut (b .state) (b .mem) (a .0) r h))
-is-given b (call Reset) =
-    by-range b (call Reset) (λ t. nothing (resetCall (b .state) .answer) (who-is-refused .reset (b .state) t)) (λ t. with-number 5 (b .state) (resetCall (b .state)) (who-is-refused .reset-broken (b .state) t))
-is-given b (call (PpuWrite a v)) =
-    over-gate b (call (PpuWrite a v)) 0 (exactly b (call (PpuWrite a v)))
-    (λ r h. says-refused (ppuWrite (b .state) (b .mem) (a .0) v .out) (b .state) r (ap (λ (x : After). x .out) (who-is-refused .ppu-write-shut (b .state) (b .mem) (a .0) v r h)))
+is-given b (call c) = over-gate b (call c) _ (exactly b (call c)) (says-shut b c)
 is-given b (peek a) =
     over-gate b (peek a) _ (exactly b (peek a))
-    (λ r h. ap numberIn (who-is-refused .peek (b .state) (b .mem) (a .0)) ∙ says-refused (cpuRead (b .state) (b .mem) (a .0)) (b .state) r (who-is-refused .read-shut (b .state) (b .mem) (a .0) r h))
+    (λ r h. ap numberIn (who-is-refused .peek (b .state) (b .mem) (a .0)) ∙ says-shut b (CpuRead a) r h)
 is-given b (ppu-peek a) = over-gate b (ppu-peek a) 0 (exactly b (ppu-peek a)) (λ r h. ap numberIn (who-is-refused .ppu-peek-shut (b .state) (b .mem) (a .0) r h))
 is-given b (sprite-peek a) = over-gate b (sprite-peek a) 0 (exactly b (sprite-peek a)) (λ r h. ap numberIn (who-is-refused .sprite-peek-shut (b .state) (b .mem) (a .0) r h))
 is-given b mirroring-asked = by-range b mirroring-asked (λ t. rw t) (λ t. rw t)
@@ -122,36 +98,12 @@ behind-open b interrupt-asked h e = refl
 behind-open b (cpu-page a) h e = refl
 behind-open b (ppu-page a) h e = refl
 
--- over the buffers, and on the state alone
-module _ (b : Board) (c : Made) (n : number (says b c) ≡ 0 → ⊥) where
-  over-back : ((r : Refusal) → gateMem (b .state) (b .mem) ≡ Shut r → leaves b c ≡ b) → leaves b c ≡ b
-  over-back k = gate-case (gateMem (b .state) (b .mem)) (λ h. behind-open b c h (λ e. n (exactly b c h ∙ e))) k
-
-  alone-back : (inRange (b .state) ≡ true → number (says b c) ≡ 0) → (inRange (b .state) ≡ false → leaves b c ≡ b) → leaves b c ≡ b
-  alone-back f k = split (inRange (b .state)) (λ t. absurd (n (f t))) k
-
-back : (b : Board) (o : Outcome) (r : Refusal) → o ≡ refused (b .state) r → record { state = o .state; mem = b .mem } ≡ b
-back b o r e = rw e
-
-back-after : (b : Board) (x : After) (r : Refusal) → x ≡ afterOf (refused (b .state) r) (b .mem) → record { state = x .out .state; mem = x .mem } ≡ b
-back-after b x r e = rw e
-
-state-back : (b : Board) (s : State) → s ≡ b .state → record { state = s; mem = b .mem } ≡ b
-state-back b s e = rw e
-
 gives-back : (b : Board) (c : Made) → (number (says b c) ≡ 0 → ⊥) → leaves b c ≡ b
 unfolding says number leaves
-gives-back b (call Clock) n =
-    alone-back b (call Clock) n (λ t. nothing (clockCall (b .state) .answer) (who-is-refused .clock (b .state) t)) (λ t. state-back b (clockCall (b .state) .state) (who-is-refused .clock-broken (b .state) t .given-back))
-gives-back b (call (CpuRead a)) n = over-back b (call (CpuRead a)) n (λ r h. back b (cpuRead (b .state) (b .mem) (a .0)) r (who-is-refused .read-shut (b .state) (b .mem) (a .0) r h))
-gives-back b (call (CpuWrite a v)) n = over-back b (call (CpuWrite a v)) n (λ r h. back-after b (cpuWrite (b .state) (b .mem) (a .0) v) r (who-is-refused .write-shut (b .state) (b .mem) (a .0) v r h))
-gives-back b (call (PpuRegister a v)) n =
-    alone-back b (call (PpuRegister a v)) n (λ t. nothing (ppuRegisterCall (b .state) (a .0) v .answer) (who-is-refused .register (b .state) (a .0) v t))
-    (λ t. state-back b (ppuRegisterCall (b .state) (a .0) v .state) (who-is-refused .register-broken (b .state) (a .0) v t .given-back))
-gives-back b (call (PpuFetch a)) n = over-back b (call (PpuFetch a)) n (λ r h. back b (ppuFetch (b .state) (b .mem) (a .0)) r (who-is-refused .fetch-shut (b .state) (b .mem) (a .0) r h))
-gives-back b (call Reset) n =
-    alone-back b (call Reset) n (λ t. nothing (resetCall (b .state) .answer) (who-is-refused .reset (b .state) t)) (λ t. state-back b (resetCall (b .state) .state) (who-is-refused .reset-broken (b .state) t .given-back))
-gives-back b (call (PpuWrite a v)) n = over-back b (call (PpuWrite a v)) n (λ r h. back-after b (ppuWrite (b .state) (b .mem) (a .0) v) r (who-is-refused .ppu-write-shut (b .state) (b .mem) (a .0) v r h))
+gives-back b (call c) n =
+    gate-case (gateMem (b .state) (b .mem))
+    (λ h. behind-open b (call c) h (λ e. n (exactly b (call c) h ∙ e)))
+    (λ r h. ap (λ (x : After). record { state = x .out .state; mem = x .mem }) (shut-refuses c (b .state) (b .mem) r h))
 gives-back b (peek a) n = refl
 gives-back b (ppu-peek a) n = refl
 gives-back b (sprite-peek a) n = refl

@@ -4,8 +4,7 @@ pub mod Along
 pub mod GivenBack
 pub mod Demands
 pub mod Waited
+pub mod Coded
 pub mod OneOnly
-pub mod Computed
 pub mod Replayed
 pub mod Logged
-pub mod Replaying

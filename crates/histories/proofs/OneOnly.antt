@@ -1,25 +1,29 @@
 -- A history has one result: by induction over its calls.
 use mathlib.Core.Bool.{true}
-use mathlib.Core.List.{List}
+use mathlib.Core.List.{List, _∷_}
 use mathlib.Core.Path.{_≡_, refl, sym, _∙_, ap}
 use Rattle.lines.specs.Promise.Played.{at-load, taken}
-use Rattle.histories.specs.Boards.{Board, Made, Said, says, leaves, boardAfter}
+use Rattle.histories.specs.Boards.{Board, Made, Said, says, leaves, boardAfter, number}
 use Rattle.histories.specs.Histories.{Load, first, Reached}
 use Rattle.histories.specs.Accepted.{acceptable}
+use Rattle.histories.specs.Code.{Step, meant}
 use Rattle.histories.specs.Results.{Heard, saidAlong, OneResult}
 use Rattle.histories.specs.Results.Heard.{at-load as heard-at-load, next}
 use Rattle.histories.proofs.Along.{are-reached}
+use Rattle.histories.proofs.Coded.{only, each}
 
 module _ (l : Load) where
   board-is : {cs : List Made} {said : List Said} {b : Board} → Heard l cs said b → b ≡ boardAfter (first l) cs
   unfolding boardAfter
   board-is heard-at-load = refl
-  board-is (next c a b' h s e n) = e ∙ ap (λ (b : Board). leaves b c) (board-is h)
+  board-is (next t h p n) = ap (λ (x : Step). x .after) (only t p) ∙ ap (λ (b : Board). leaves b (t .made)) (board-is h)
 
   answers-are : {cs : List Made} {said : List Said} {b : Board} → Heard l cs said b → said ≡ saidAlong l cs
   unfolding saidAlong
   answers-are heard-at-load = refl
-  answers-are (next {b = b} c a b' h s e n) = rw (s, board-is h, answers-are h)
+  answers-are (next {cs = cs} {said = said} t h p n) =
+      let s : t .said ≡ says (boardAfter (first l) cs) (t .made) = ap (λ (x : Step). x .said) (only t p) ∙ ap (λ (b : Board). says b (t .made)) (board-is h) in
+      ap (λ (x : Said). x ∷ said) s ∙ ap (λ (xs : List Said). says (boardAfter (first l) cs) (t .made) ∷ xs) (answers-are h)
 
   pub reached-board : {cs : List Made} {b : Board} → Reached l cs b → b ≡ boardAfter (first l) cs
   unfolding boardAfter
@@ -28,14 +32,14 @@ module _ (l : Load) where
 
   to-reached : {cs : List Made} {said : List Said} {b : Board} → Heard l cs said b → Reached l cs b
   to-reached heard-at-load = at-load
-  to-reached (next {b = b} c a b' h s e n) = taken c (to-reached h) (record { accepted = rw (← s) n; left = e })
+  to-reached (next t h p n) =
+      let e = only t p in
+      taken (t .made) (to-reached h) (record { accepted = ap (λ (x : Step). number (x .said)) (sym e) ∙ n; left = ap (λ (x : Step). x .after) e })
 
   to-heard : {cs : List Made} {b : Board} → Reached l cs b → Heard l cs (saidAlong l cs) b
   unfolding saidAlong
   to-heard at-load = heard-at-load
-  to-heard (taken {cs = cs} {s = b} {s' = b'} c r t) =
-      let q : b ≡ boardAfter (first l) cs = reached-board r in
-      next c (says (boardAfter (first l) cs) c) b' (to-heard r) (ap (λ (x : Board). says x c) (sym q)) (t .left) (rw (← q) (t .accepted))
+  to-heard (taken {cs = cs} {s = b} {s' = b'} c r t) = rw (t .left, ← reached-board r) (next (meant b c) (to-heard r) (each b c) (t .accepted))
 
   results : (cs : List Made) → acceptable cs ≡ true → Heard l cs (saidAlong l cs) (boardAfter (first l) cs)
   results cs e = let p = are-reached l cs e in rw (← reached-board (p .1)) (to-heard (p .1))

@@ -1,4 +1,5 @@
 pub mod Boards
+pub mod Code
 pub mod Shorthand
 pub mod Histories
 pub mod Accepted
@@ -6,6 +7,4 @@ pub mod Refusals
 pub mod Interrupts
 pub mod Waits
 pub mod Results
-pub mod Edges
 pub mod Replays
-pub mod WorkedReplay

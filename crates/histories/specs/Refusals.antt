@@ -8,7 +8,6 @@ use lib.ListN.{length}
 use Rattle.memory.specs.Words.{pick}
 use Rattle.state.specs.Gate.{sameLengths}
 use Rattle.state.specs.Ranges.{inRange}
-use Rattle.trace.specs.declared.Call.the-variants.{Clock, CpuRead, CpuWrite, PpuRegister, PpuFetch, Reset, PpuWrite}
 use Rattle.histories.specs.Boards.{Board, Made, says, leaves, number}
 use Rattle.histories.specs.Boards.Made.{call, peek, ppu-peek, sprite-peek, mirroring-asked, interrupt-asked, cpu-page, ppu-page}
 use Rattle.histories.specs.Accepted.{watch, refusal}
@@ -22,18 +21,12 @@ lentAsRecorded b =
 abbrev pub overBuffers : Board → ℕ → ℕ
 overBuffers b own = pick (not (b .state .lengths .loaded)) 5 (pick (not (lentAsRecorded b)) 4 (pick (not (inRange (b .state))) 5 own))
 
--- A call on the state alone: 5, "the state handed in breaks a range below".
+-- A question to the state alone: 5, "the state handed in breaks a range below".
 abbrev pub alone : Board → ℕ
 alone b = pick (not (inRange (b .state))) 5 0
 
 unfoldable pub given : Board → Made → ℕ
-given b (call Clock) = alone b
-given b (call (CpuRead a)) = overBuffers b (refusal (watch b) (call (CpuRead a)))
-given b (call (CpuWrite a v)) = overBuffers b (refusal (watch b) (call (CpuWrite a v)))
-given b (call (PpuRegister a v)) = alone b
-given b (call (PpuFetch a)) = overBuffers b (refusal (watch b) (call (PpuFetch a)))
-given b (call Reset) = alone b
-given b (call (PpuWrite a v)) = overBuffers b 0
+given b (call c) = overBuffers b (refusal (watch b) (call c))
 given b (peek a) = overBuffers b (refusal (watch b) (peek a))
 given b (ppu-peek a) = overBuffers b 0
 given b (sprite-peek a) = overBuffers b 0

@@ -1,21 +1,20 @@
 -- Demand 2 over histories: "On every sequence of accepted calls from load, answers, page tables and memory .. are proved equal to definitions".
--- 01, "What each contract settles": "Any two results it allows are proved equal". Each entry point's contract is one equation with the
--- definition that `says` and `leaves` name; here they are put together over a whole history. No theorem speaks of code: that `Heard` is what the
--- entry points do is seen by reading their contracts beside `says` and `leaves`, name by name.
+-- 01, "What each contract settles": "Any two results it allows are proved equal". A history is one of calls of the code: what each entry point's own
+-- contract allows (specs/Code.antt), one after the other.
 -- Assumes nothing.
 use mathlib.Core.Path.{_≡_}
 use mathlib.Core.Bool.{true}
 use mathlib.Core.List.{List, [], _∷_}
-use Rattle.histories.specs.Boards.{Board, Made, Said, says, leaves, boardAfter, number}
+use Rattle.histories.specs.Boards.{Board, Made, Said, says, boardAfter, number}
 use Rattle.histories.specs.Histories.{Load, first, Reached}
 use Rattle.histories.specs.Accepted.{acceptable}
+use Rattle.histories.specs.Code.{Step, Happens}
 
--- The calls cs were made one after the other from the load on, each met its contract, none was refused; they said `said` and left b. Both lists
--- have the newest first.
+-- The calls cs were made one after the other from the load on, each on the board that the one before it left, and none was refused; they said
+-- `said` and left b. Both lists have the newest first.
 pub data Heard (l : Load) : List Made → List Said → Board → Type 0 where
   at-load : Heard l [] [] (first l)
-  next : {cs : List Made} {said : List Said} {b : Board} (c : Made) (a : Said) (b' : Board)
-      → Heard l cs said b → a ≡ says b c → b' ≡ leaves b c → number a ≡ 0 → Heard l (c ∷ cs) (a ∷ said) b'
+  next : {cs : List Made} {said : List Said} (t : Step) → Heard l cs said (t .before) → Happens t → number (t .said) ≡ 0 → Heard l (t .made ∷ cs) (t .said ∷ said) (t .after)
 
 -- The definitions, one after the other: what the calls say, each at the board that the calls before it leave.
 unfoldable pub saidAlong : Load → List Made → List Said

@@ -2,27 +2,26 @@
 // call before it left them. No code runs from here: each function's contract holds what is promised, so that a proof that goes missing fails
 // the check. specs/Boards.antt and specs/Histories.antt say what a call and a history are.
 ghost use Rattle.histories.specs.Accepted.{Along};
-ghost use Rattle.histories.specs.Edges.{Edges, ShutOut, CasesAreHistories};
+ghost use Rattle.histories.specs.Code.{CodeIsTheBoard, EveryCallTakesAll};
 ghost use Rattle.histories.specs.Interrupts.{BoardDemand3, Asked};
 ghost use Rattle.histories.specs.Refusals.{Refusals};
 ghost use Rattle.histories.specs.Replays.{Replays};
 ghost use Rattle.histories.specs.Results.{OneResult};
 ghost use Rattle.histories.specs.Waits.{Waits};
-ghost use Rattle.histories.specs.WorkedReplay.{WorkedReplay};
 
-// Which calls are refused, on every board, and with which number; a refused call changes nothing.
+// Every call takes all inputs; which are refused, on every board, and with which number; a refused call changes nothing.
 pub fn demand_1()
-    ensures { λ _. ⌜ Refusals ⌝ }
+    ensures { λ _. ⌜ EveryCallTakesAll × Refusals ⌝ }
 {}
 
-// A history has one result: every answer, the page tables and the memory are the definitions'.
+// The code is the definitions' board, and a history of its calls has one result: every answer, the page tables and the memory are the definitions'.
 pub fn demand_2()
-    ensures { λ _. ⌜ OneResult ⌝ }
+    ensures { λ _. ⌜ CodeIsTheBoard × OneResult ⌝ }
 {}
 
 // Replay of a trace is a history.
 pub fn replay_is_history()
-    ensures { λ _. ⌜ Replays × WorkedReplay ⌝ }
+    ensures { λ _. ⌜ Replays ⌝ }
 {}
 
 // The history alone tells the scanline interrupt.
@@ -33,14 +32,4 @@ pub fn demand_3()
 // Which calls are accepted along a history, and which histories there are.
 pub fn who_is_accepted()
     ensures { λ _. ⌜ Along ⌝ }
-{}
-
-// Document 01's cases marked P, one list; each is a history.
-pub fn cases_marked_p()
-    ensures { λ _. ⌜ Edges × CasesAreHistories ⌝ }
-{}
-
-// Boards that document 01 shuts out by name: cases with another outcome under each.
-pub fn shut_out()
-    ensures { λ _. ⌜ ShutOut ⌝ }
 {}

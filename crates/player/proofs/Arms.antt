@@ -56,10 +56,10 @@ module _ {trace : List ℕ} {all : Left} {m₀ : Mem} {log₀ : List ℕ} {at co
 
   module _ {call : Call} {next : ℕ} (found : recordAt trace at ≡ Record call next) where
     pub clock-arm : call ≡ Clock → Onward next Nothing (withIrq s (clocked (s .irq))) m
-    clock-arm k = goes trace all m₀ log₀ at count s m log call next found Nothing _ m g (rw k (ap (λ o. afterOf o m) (Made.clock-made s m (g .gate)))) refl
+    clock-arm k = goes trace all m₀ log₀ at count s m log call next found Nothing _ m g (rw (k, g .gate) (ap (λ o. afterOf o m) (Made.clock-made s m (g .gate)))) refl
 
     pub reset-arm : call ≡ Reset → Onward next Nothing (withRegs s (resetRegs (s .regs))) m
-    reset-arm k = goes trace all m₀ log₀ at count s m log call next found Nothing _ m g (rw k (ap (λ o. afterOf o m) (Made.reset-made s m (g .gate)))) refl
+    reset-arm k = goes trace all m₀ log₀ at count s m log call next found Nothing _ m g (rw (k, g .gate) (ap (λ o. afterOf o m) (Made.reset-made s m (g .gate)))) refl
 
     module _ {addr : CpuAddr} where
       pub read-stop : call ≡ CpuRead addr → audioRead (addr .0) ≡ true → ended (Stopped at Audio) s m log ≡ all
@@ -71,7 +71,7 @@ module _ {trace : List ℕ} {all : Left} {m₀ : Mem} {log₀ : List ℕ} {at co
 
       module _ {v : ℕ} where
         pub register-arm : call ≡ PpuRegister addr v → Onward next Nothing (toldPpu s (addr .0) v) m
-        register-arm k = goes trace all m₀ log₀ at count s m log call next found Nothing _ m g (rw k (ap (λ o. afterOf o m) (Made.register-made s m (g .gate) (addr .0) v))) refl
+        register-arm k = goes trace all m₀ log₀ at count s m log call next found Nothing _ m g (rw (k, g .gate) (ap (λ o. afterOf o m) (Made.register-made s m (g .gate) (addr .0) v))) refl
 
         pub write-stop : call ≡ CpuWrite addr v → audioWrite (addr .0) ≡ true → ended (Stopped at Audio) s m log ≡ all
         write-stop k t = stops trace all m₀ log₀ at count s m log call next found Audio s m g (rw k (Made.write-refused s m (g .gate) (addr .0) v t))

@@ -45,12 +45,12 @@ answered-given (Refused r) f x g = absurd (false≢true (sym g))
 
 -- Every call keeps the gate open.
 pub call-open : (call : Call) (s : State) (m : Mem) → gateMem s m ≡ Open → gateMem (called call s m .out .state) (called call s m .mem) ≡ Open
-call-open Clock s m h = gate-stays-open .clock s m h
+call-open Clock s m h = rw h (gate-stays-open .clock s m h)
 call-open (CpuRead a) s m h = gate-stays-open .read s m (a .0) h
 call-open (CpuWrite a v) s m h = gate-stays-open .write s m (a .0) v h
-call-open (PpuRegister a v) s m h = gate-stays-open .register s m (a .0) v h
+call-open (PpuRegister a v) s m h = rw h (gate-stays-open .register s m (a .0) v h)
 call-open (PpuFetch a) s m h = gate-stays-open .fetch s m (a .0) h
-call-open Reset s m h = gate-stays-open .reset s m h
+call-open Reset s m h = rw h (gate-stays-open .reset s m h)
 call-open (PpuWrite a v) s m h = gate-stays-open .ppu-write s m (a .0) v h
 
 -- No call changes a buffer's length, nor does the log.

@@ -55,7 +55,8 @@ use Rattle.player.proofs.replay.Reads as player-replay
 use Rattle.player.proofs.plays.play.Reads as player-play
 use Rattle.transcript.proofs.printed.print.Reads as transcript-print
 use Rattle.transcript.proofs.cartridge.transcribe.Reads as transcript-transcribe
-use Rattle.settles.specs.Settled.{Result, Settles, memLeft}
+use Rattle.calls.specs.Lent.{memLeft}
+use Rattle.settles.specs.Settled.{Result, Settles}
 
 pub record Board : Type 0 where
   pub clock : Result board-clock.Learnt

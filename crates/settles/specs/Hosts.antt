@@ -54,7 +54,8 @@ use Rattle.host_looks.proofs.peeks.mmc5_sprite_peek.Reads as host-looks-sprite-
 use Rattle.host_looks.proofs.whole.mmc5_interrupt.Reads as host-looks-interrupt
 use Rattle.host_looks.proofs.whole.mmc5_mirroring.Reads as host-looks-mirroring
 use Rattle.host_replay.proofs.mmc5_replay.Reads as host-replay-replay
-use Rattle.settles.specs.Settled.{Result, Settles, beside, BufferThen, memLeft}
+use Rattle.calls.specs.Lent.{BufferThen, memLeft}
+use Rattle.settles.specs.Settled.{Result, Settles, beside}
 
 -- A call's first seven parameters are the arrays of words: a look at them, and what comes behind them.
 abbrev pub wordsLeft : {X : Type 0} → BufferThen (BufferThen (BufferThen (BufferThen (BufferThen (BufferThen (BufferThen X)))))) → AllWords

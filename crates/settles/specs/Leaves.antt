@@ -107,7 +107,8 @@ use Rattle.ppu.proofs.served.ex_offset.Reads as ppu-ex-offset
 use Rattle.ppu.proofs.served.counted_served.Reads as ppu-counted-served
 use Rattle.ppu.proofs.served.pattern_served.Reads as ppu-pattern-served
 use Rattle.ppu.proofs.served.sprite_byte.Reads as ppu-sprite-byte
-use Rattle.settles.specs.Settled.{Result, Settles, beside, memLeft}
+use Rattle.calls.specs.Lent.{memLeft}
+use Rattle.settles.specs.Settled.{Result, Settles, beside}
 
 pub record Memory : Type 0 where
   pub byte : Result memory-byte.Learnt

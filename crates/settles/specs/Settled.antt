@@ -3,11 +3,7 @@
 -- lifetimes κ and the arguments a it says which results r, with the parameters e as they are at the exit, are allowed. The prover's name for it is
 -- `Learnt`, what a caller may rely on. A change of a contract that leaves something open fails here.
 -- Assumes nothing.
-use Prim.Native.Nat.{ℕ}
-use mathlib.Core.List.{List}
 use mathlib.Core.Path.{_≡_}
-use denote.Ref.{RefT, now}
-use Rattle.memory.specs.Bytes.{Mem, memOf}
 
 -- Two results that a contract allows for the same arguments are equal.
 abbrev pub Result : {K : Type 0} {A R E : K → Type 0} → ((κ : K) → A κ → R κ → E κ → Type 0) → Type 0
@@ -21,11 +17,3 @@ Settles {K} {A} {R} {E} allows look =
 -- Two things that are looked at together.
 abbrev pub beside : {X Y : Type 0} → X → Y → X × Y
 beside x y = (x, y)
-
--- A lent buffer, and what comes behind it.
-abbrev pub BufferThen : Type 0 → Type 0
-BufferThen X = RefT (List ℕ) × X
-
--- A look at lent memory: PRG-ROM, which no call changes ([] where a function is not lent it), and the four buffers with which these parameters begin.
-abbrev pub memLeft : {X : Type 0} → List ℕ → BufferThen (BufferThen (BufferThen (BufferThen X))) → Mem
-memLeft prg e = memOf prg (now (e .0)) (now (e .1 .0)) (now (e .1 .1 .0)) (now (e .1 .1 .1 .0))

@@ -44,7 +44,7 @@ use Rattle.board_ppu.specs.Peeks.{chrAnswer, ppuWrite}
 use Rattle.trace.specs.declared.Call.{Call}
 use Rattle.trace.specs.declared.Call.the-variants.{Clock, CpuRead, CpuWrite, PpuRegister, PpuFetch, Reset, PpuWrite}
 use Rattle.trace.specs.Promise.{InRange}
-use Rattle.calls.specs.Called.{called}
+use Rattle.calls.specs.Called.{overLent, called}
 use Rattle.transcript.proofs.Small.{Bytes, SmallRegs, SmallSplit, SmallMem, SmallState, SmallAnswer, refusal-small, page-small, read-small, counted-small, pattern-small}
 
 -- Stores -----------------------------------------------------------------------------------------------------------------------------
@@ -243,12 +243,16 @@ ppu-write-small s m a v b h k =
     behind-keeps SmallAfter (gateMem s m) _ _ (λ why. unstored (refused s why) m (refused-small s why h) k)
     (record { answer = omega arith; state = h; mem = page-stored-small m _ a v b k })
 
+over-lent-small : (s : State) (m : Mem) (o : Outcome) → SmallState s → SmallMem m → SmallOut o → SmallAfter (overLent s m o)
+over-lent-small s m o h k p =
+    unstored (behind (gateMem s m) (refused s) o) m (behind-keeps SmallOut (gateMem s m) (refused s) o (λ why. refused-small s why h) p) k
+
 pub called-small : (call : Call) (s : State) (m : Mem) → InRange call → SmallState s → SmallMem m → SmallAfter (called call s m)
 unfolding InRange
-called-small Clock s m r h k = unstored (clockCall s) m (clock-small s h) k
+called-small Clock s m r h k = over-lent-small s m (clockCall s) h k (clock-small s h)
 called-small (CpuRead a) s m r h k = unstored (cpuRead s m (a .0)) m (cpu-read-small s m (a .0) h k) k
 called-small (CpuWrite a v) s m r h k = cpu-write-small s m (a .0) v (omega (arith, r .1)) h k
-called-small (PpuRegister a v) s m r h k = unstored (ppuRegisterCall s (a .0) v) m (ppu-register-small s (a .0) v h) k
+called-small (PpuRegister a v) s m r h k = over-lent-small s m (ppuRegisterCall s (a .0) v) h k (ppu-register-small s (a .0) v h)
 called-small (PpuFetch a) s m r h k = unstored (ppuFetch s m (a .0)) m (fetch-small s m (a .0) h k) k
-called-small Reset s m r h k = unstored (resetCall s) m (reset-small s h) k
+called-small Reset s m r h k = over-lent-small s m (resetCall s) h k (reset-small s h)
 called-small (PpuWrite a v) s m r h k = ppu-write-small s m (a .0) v (omega (arith, r .1)) h k

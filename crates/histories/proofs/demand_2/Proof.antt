@@ -1,10 +1,11 @@
--- The promise is `one-result` of `OneOnly.antt`.
+-- The promises are `code-is-the-board` of `Coded.antt` and `one-result` of `OneOnly.antt`.
+use Rattle.histories.proofs.Coded.{code-is-the-board}
 use Rattle.histories.proofs.OneOnly.{one-result}
 use Rattle.histories.proofs.demand_2.Statement.{statement}
 use Rattle.histories.proofs.demand_2.Tie as tie
 
 returns : tie.Need-returns
-returns c = one-result
+returns c = (code-is-the-board, one-result)
 
 pub demand-2-spec : {M : Type 1} → statement M
 demand-2-spec = tie.close (tie.spec returns)

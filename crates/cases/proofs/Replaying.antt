@@ -32,7 +32,7 @@ use Rattle.trace.specs.Numbers.{grouped, numeral, limited}
 use Rattle.trace.specs.Records.{numbered, filled, recordAt}
 use Rattle.logs.specs.Logs.{logged}
 use Rattle.player.specs.Replay.{playedFrom, replayed}
-use Rattle.histories.specs.WorkedReplay.{WorkedReplay}
+use Rattle.cases.specs.WorkedReplay.{WorkedReplay}
 
 pub worked-replay : WorkedReplay
 unfolding nextTile tileRefused tilesOk spriteFetch isFirst isPrefetched columnOf lineRefused counterRefused detectorOk tick again matchesAfter isLine meets seenAt offsetOf byteAt storedAt pageStored all prgShowsAs chrShowsAs wordNumber pageOf pageStart windowPage written regsOk placed prgValues prgShown windowsMapped exramPage windowPages chrNumber chrMapped selector namePage namesMapped sameLengths gateOf lengthsOk inRange chosen ppuAfter splitAfter irqAfter prgBanksAfter chrBanksAfter pageAnswer registerRead irqRead cpuAnswer prgPagesAfter chrPagesAfter registerWritten latched cpuStored cacheAfter ppuSeen splitSeen countedServed loadedState loadCall cpuRead cpuWrite clockCall statusTold detectorTold ppuRegisterCall countedCall ppuFetch chrAnswer countedPages cartridge grouped numeral limited numbered filled recordAt logged playedFrom replayed

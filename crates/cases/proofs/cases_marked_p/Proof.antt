@@ -1,7 +1,7 @@
 -- The cases hold by `edges-hold` of `Computed.antt`, and are histories by `cases-are-histories`.
-use Rattle.histories.proofs.Computed.{edges-hold, cases-are-histories}
-use Rattle.histories.proofs.cases_marked_p.Statement.{statement}
-use Rattle.histories.proofs.cases_marked_p.Tie as tie
+use Rattle.cases.proofs.Computed.{edges-hold, cases-are-histories}
+use Rattle.cases.proofs.cases_marked_p.Statement.{statement}
+use Rattle.cases.proofs.cases_marked_p.Tie as tie
 
 returns : tie.Need-returns
 returns c = (edges-hold, cases-are-histories)

@@ -1,7 +1,7 @@
 -- The promise is `shut-out` of `Computed.antt`.
-use Rattle.histories.proofs.Computed.{shut-out}
-use Rattle.histories.proofs.shut_out.Statement.{statement}
-use Rattle.histories.proofs.shut_out.Tie as tie
+use Rattle.cases.proofs.Computed.{shut-out}
+use Rattle.cases.proofs.shut_out.Statement.{statement}
+use Rattle.cases.proofs.shut_out.Tie as tie
 
 returns : tie.Need-returns
 returns c = shut-out

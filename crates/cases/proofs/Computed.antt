@@ -43,10 +43,10 @@ use Rattle.board_ppu.specs.Peeks.{chrAnswer}
 use Rattle.lines.specs.Promise.Played.{at-load, taken}
 use Rattle.promises.specs.Loading.{goodPrg, goodChr, goodRam}
 use Rattle.promises.proofs.Loadings.{load-refusals}
 use Rattle.histories.specs.Boards.{Board, Made, says, leaves, boardAfter, number, numberIn}
 use Rattle.histories.specs.Histories.{Load, first, Reached}
-use Rattle.histories.specs.Edges.{lent, start, loadAccepted, accepted, seen, comes, inTurn, edges, shutOut, Edges, ShutOut, onto, CasesAreHistories}
+use Rattle.cases.specs.Edges.{lent, start, loadAccepted, accepted, seen, comes, inTurn, edges, shutOut, Edges, ShutOut, onto, CasesAreHistories}
 use Rattle.histories.proofs.Behind.{numbered}
 
 -- What the cases come to.
 abbrev all-some : List ℕ → List (Option ℕ)
