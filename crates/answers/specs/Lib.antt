@@ -1,2 +1,4 @@
 pub mod Numbers
 pub mod Letters
+pub mod Refused
+pub mod Promise

@@ -2,6 +2,7 @@
 ghost use mathlib.Core.Path.{_≡_};
 ghost use Rattle.answers.specs.Letters.{letterOf, hasValue, valueOf};
 ghost use Rattle.answers.specs.Numbers.{numberOf};
+ghost use Rattle.answers.specs.Promise.{Numbered};
 
 pub enum Refusal {
     Prg,
@@ -87,3 +88,8 @@ pub fn value_of(answer: Answer) -> u8
         Answer::Refused(r) => number_of(r),
     }
 }
+
+// No code: its contract holds what is promised of refusals, so that a proof that goes missing fails the check.
+pub fn promises()
+    ensures { λ _. ⌜ Numbered ⌝ }
+{}

@@ -46,7 +46,7 @@ use Rattle.promises.proofs.Loadings.{load-refusals}
 use Rattle.histories.specs.Boards.{Board, Made, says, leaves, boardAfter, number, numberIn}
 use Rattle.histories.specs.Histories.{Load, first, Reached}
 use Rattle.cases.specs.Edges.{lent, start, loadAccepted, accepted, seen, comes, inTurn, edges, shutOut, Edges, ShutOut, onto, CasesAreHistories}
-use Rattle.histories.proofs.Behind.{numbered}
+use Rattle.histories.proofs.Behind.{no-zero}
 
 -- What the cases come to.
 abbrev all-some : List ℕ → List (Option ℕ)
@@ -69,9 +69,9 @@ unfolding loadCall
 load-accepted m asRam mirroring n =
     split (goodPrg m)
     (λ p. split (goodChr m)
-    (λ c. split (goodRam m) (λ r. load-refusals .accepted m asRam mirroring p c r) (λ r. numbered Ram (rw (p, c, r) at n)))
-    (λ c. numbered Chr (rw (p, c) at n)))
-    (λ p. numbered Prg (rw p at n))
+    (λ c. split (goodRam m) (λ r. load-refusals .accepted m asRam mirroring p c r) (λ r. no-zero Ram (rw (p, c, r) at n)))
+    (λ c. no-zero Chr (rw (p, c) at n)))
+    (λ p. no-zero Prg (rw p at n))
 
 -- Calls on top of a history, each accepted.
 goes-on : (l : Load) (hs cs : List Made) → let b = boardAfter (first l) hs in Reached l hs b → accepted b cs ≡ true → Reached l (onto cs hs) (boardAfter (first l) (onto cs hs))

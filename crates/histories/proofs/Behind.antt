@@ -1,7 +1,7 @@
 -- Behind an open gate, and where a call meets no refusal, the call is what its definition says there; and the number that a call gives behind
 -- an open gate.
 use Prim.Native.Nat.{ℕ, suc}
-use mathlib.Core.Bool.{Bool, true, false, not, false≢true}
+use mathlib.Core.Bool.{Bool, true, false, not}
 use mathlib.Core.Path.{_≡_, refl, sym, _∙_, ap}
 use native.Mathlib.Omega.{arith}
 use lib.Dec.{ltb}
@@ -9,11 +9,14 @@ use Rattle.memory.specs.Bytes.{Mem, pageStored}
 use Rattle.memory.specs.Words.{pick, pageOf}
 use Rattle.memory.proofs.Tests.{split}
 use Rattle.answers.specs.declared.Answer.{Answer}
-use Rattle.answers.specs.declared.Answer.the-variants.{Nothing, Register, Served, Page, Blank, Refused}
+use Rattle.answers.specs.declared.Answer.the-variants.{Nothing}
 use Rattle.answers.specs.declared.Refusal.{Refusal}
-use Rattle.answers.specs.declared.Refusal.the-variants.{Prg, Chr, Ram, Buffers, State as StateBroken, Audio, Counter, Split, Kind, Number, Length}
-use Rattle.answers.specs.Letters.{letterOf, valueOf}
+use Rattle.answers.specs.declared.Refusal.the-variants.{State as StateBroken}
+use Rattle.answers.specs.Letters.{valueOf}
 use Rattle.answers.specs.Numbers.{numberOf}
+use Rattle.answers.specs.Refused.{isRefused}
+use Rattle.answers.proofs.Cases.{refused-or-not, accepted-goes-on, letter-range}
+use Rattle.answers.proofs.NumberLaws.{numbered}
 use Rattle.scanline.specs.Fetches.{countedAt}
 use Rattle.scanline.specs.Ranges.{counterRefused}
 use Rattle.scanline.specs.Steps.{clocked, interruptUp}
@@ -30,20 +33,20 @@ use Rattle.board.specs.declared.Interrupt.{Interrupt}
 use Rattle.board.specs.declared.Interrupt.the-variants.{Up, Down}
 use Rattle.board.specs.declared.Outcome.{Outcome}
 use Rattle.board.specs.CpuSide.{cpuRead, cpuWrite}
-use Rattle.board.specs.Outcomes.{outcome, refused, After, afterOf, behind}
+use Rattle.board.specs.Outcomes.{outcome, refused, After, afterOf}
 use Rattle.board.specs.Whole.{resetRegs, resetCall, clockCall, toldPpu, ppuRegisterCall, interruptCall}
 use Rattle.board_ppu.specs.Fetch.{countedIrq, countedPpu, countedSplit, countedState, countedCall, patternCall, ppuFetch}
 use Rattle.board_ppu.specs.Peeks.{chrWordAt, chrAnswer, ppuPeek, spritePeek, ppuWrite}
 use Rattle.trace.specs.declared.Call.{Call}
 use Rattle.trace.specs.declared.Call.the-variants.{Clock, CpuRead, CpuWrite, PpuRegister, PpuFetch, Reset, PpuWrite}
 use Rattle.calls.specs.Called.{called}
-use Rattle.promises.specs.Refused.{isRefused, RefusedWith}
+use Rattle.promises.specs.Refused.{RefusedWith}
 use Rattle.promises.proofs.Gates.{in-range-of}
 use Rattle.promises.proofs.Fetching.{split-free}
 use Rattle.promises.proofs.Promised.{who-is-refused}
 use Rattle.histories.specs.Boards.{Board, Made, says, number, numberIn}
 use Rattle.histories.specs.Boards.Made.{call, peek, ppu-peek, sprite-peek, mirroring-asked, interrupt-asked, cpu-page, ppu-page}
-use Rattle.histories.specs.Boards.Said.{answers, interrupts}
+use Rattle.histories.specs.Boards.Said.{interrupts}
 use Rattle.histories.specs.Accepted.{watch, refusal}
 
 -- A call that is not refused.
@@ -84,40 +87,19 @@ is-done b Reset h e = rw (h, in-range-of (b .state) (b .mem) h)
 is-done b (PpuWrite a v) h e = rw h
 
 -- The numbers of answers.
-pub numbered : (r : Refusal) {A : Type 0} → numberOf r ≡ 0 → A
-numbered Prg e = absurd (omega arith)
-numbered Chr e = absurd (omega arith)
-numbered Ram e = absurd (omega arith)
-numbered Buffers e = absurd (omega arith)
-numbered StateBroken e = absurd (omega arith)
-numbered Audio e = absurd (omega arith)
-numbered Counter e = absurd (omega arith)
-numbered Split e = absurd (omega arith)
-numbered Kind e = absurd (omega arith)
-numbered Number e = absurd (omega arith)
-numbered Length e = absurd (omega arith)
+pub no-zero : (r : Refusal) {A : Type 0} → numberOf r ≡ 0 → A
+no-zero r e = absurd (omega (arith, numbered .least r, e))
 
-given : (a : Answer) → isRefused a ≡ false → numberIn a ≡ 0
-given Nothing h = refl
-given (Register v) h = refl
-given (Served v) h = refl
-given (Page v) h = refl
-given Blank h = refl
-given (Refused r) h = absurd (false≢true (sym h))
+pub given : (a : Answer) → isRefused a ≡ false → numberIn a ≡ 0
+given a h = accepted-goes-on a numberOf 0 h
 
 pub nothing : (a : Answer) → a ≡ Nothing → numberIn a ≡ 0
 nothing a e = rw e
 
-numbers : (a : Answer) (n : ℕ) → letterOf a ≡ 0x21 → valueOf a ≡ n → numberIn a ≡ n
-numbers Nothing n l v = absurd (omega arith)
-numbers (Register x) n l v = absurd (omega arith)
-numbers (Served x) n l v = absurd (omega arith)
-numbers (Page x) n l v = absurd (omega arith)
-numbers Blank n l v = absurd (omega arith)
-numbers (Refused r) n l v = v
-
 pub with-number : (n : ℕ) (s : State) (o : Outcome) → RefusedWith n s o → numberIn (o .answer) ≡ n
-with-number n s o r = numbers (o .answer) n (r .letter) (r .number)
+with-number n s o r =
+    refused-or-not (o .answer) (λ why e. ap numberIn e ∙ sym (ap valueOf e) ∙ r .number)
+    (λ f. absurd (omega (arith, r .letter, letter-range (o .answer) .1 f)))
 
 pub told : (i : Interrupt) (up : Bool) → i ≡ pick up Up Down → number (interrupts i) ≡ 0
 unfolding number
@@ -181,4 +163,4 @@ unfolding says number
 says-shut b c r h = ap (λ (x : After). numberIn (x .out .answer)) (shut-refuses c (b .state) (b .mem) r h)
 
 pub accepted-passes : (b : Board) (c : Call) → number (says b (call c)) ≡ 0 → Passed b c
-accepted-passes b c n = gate-case (gateMem (b .state) (b .mem)) (through b c n) (λ r h. numbered r (sym (says-shut b c r h) ∙ n))
+accepted-passes b c n = gate-case (gateMem (b .state) (b .mem)) (through b c n) (λ r h. no-zero r (sym (says-shut b c r h) ∙ n))

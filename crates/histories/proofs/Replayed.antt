@@ -9,11 +9,11 @@ use borrow.Author.Tests.{lt-ltb, le-ltb}
 use lib.Dec.{ltb}
 use lib.ListN.{length}
 use Rattle.memory.specs.Words.{pick}
-use Rattle.answers.specs.declared.Answer.{Answer}
-use Rattle.answers.specs.declared.Answer.the-variants.{Nothing, Register, Served, Page, Blank, Refused}
+use Rattle.answers.specs.declared.Answer.the-variants.{Refused}
 use Rattle.answers.specs.declared.Refusal.{Refusal}
 use Rattle.answers.specs.declared.Refusal.the-variants.{Kind, Number, Length}
 use Rattle.answers.specs.Numbers.{numberOf}
+use Rattle.answers.proofs.Cases.{if-refused}
 use Rattle.scanline.specs.Ranges.{counterRefused}
 use Rattle.scanline.specs.Steps.{interruptUp}
 use Rattle.state.specs.declared.gate.Gate.the-variants.{Shut}
@@ -22,14 +22,14 @@ use Rattle.cpu.specs.Reads.{audioRead}
 use Rattle.cpu.specs.Writes.{audioWrite}
 use Rattle.trace.specs.declared.Call.{Call}
 use Rattle.trace.specs.declared.Call.the-variants.{Clock, CpuRead, CpuWrite, PpuRegister, PpuFetch, Reset, PpuWrite}
-use Rattle.trace.specs.declared.Found.{Found}
 use Rattle.trace.specs.declared.Found.the-variants.{End, Record, Refused as Unreadable}
 use Rattle.trace.specs.Records.{recordAt}
 use Rattle.trace.proofs.RecordLaws.{none-read, record-advances, record-refused}
 use Rattle.lines.specs.Promise.Played.{at-load, taken}
 use Rattle.player.specs.declared.Ending.the-variants.{Stopped}
 use Rattle.logs.specs.Logs.{logged}
-use Rattle.player.specs.Replay.{Left, ended, found, answered, playedFrom, played, replayed}
+use Rattle.player.specs.Replay.{Left, ended, playedFrom, played, replayed}
+use Rattle.player.proofs.Ways.{by-found}
 use Rattle.histories.specs.Boards.{Board, Made, says, leaves, boardAfter, number, numberIn}
 use Rattle.histories.specs.Boards.Made.{call}
 use Rattle.histories.specs.Boards.Said.{answers}
@@ -39,7 +39,7 @@ use Rattle.histories.specs.Replays.{recordsTo, endOf, playedCalls, Recor
 use Rattle.histories.specs.Replays.Records.{none, one-more}
 use Rattle.histories.specs.Replays.Ends.{counted, unreadable, refused}
 use Rattle.histories.proofs.Along.{Opened, open-on, open-along}
-use Rattle.histories.proofs.Behind.{exactly, numbered as no-zero}
+use Rattle.histories.proofs.Behind.{exactly, no-zero, given}
 use Rattle.histories.proofs.GivenBack.{refusals}
 
 -- The calls before a place ------------------------------------------------------------------------------------------------------------------
@@ -107,20 +107,6 @@ nine-or-ten trace at why e = by-cause why (record-refused trace at why e .cause)
 
 -- The walk over the records -------------------------------------------------------------------------------------------------------------------
 
-found-case : (P : Left → Type 0) (r : Found) (done : Left) (stop : Refusal → Left) (play : Call → ℕ → Left) → (r ≡ End → P done) → ((why : Refusal) → r ≡ Unreadable why → P (stop why))
-    → ((c : Call) (next : ℕ) → r ≡ Record c next → P (play c next)) → P (found r done stop play)
-found-case P End done stop play f g h = f refl
-found-case P (Unreadable why) done stop play f g h = g why refl
-found-case P (Record c next) done stop play f g h = h c next refl
-
-answered-case : (P : Left → Type 0) (a : Answer) (stop : Refusal → Left) (go : Left) → ((why : Refusal) → a ≡ Refused why → P (stop why)) → (numberIn a ≡ 0 → P go) → P (answered a stop go)
-answered-case P Nothing stop go f g = g refl
-answered-case P (Register v) stop go f g = g refl
-answered-case P (Served v) stop go f g = g refl
-answered-case P (Page v) stop go f g = g refl
-answered-case P Blank stop go f g = g refl
-answered-case P (Refused why) stop go f g = f why refl
-
 -- The accepted calls of a replay that leaves x.
 record Walked (b₀ : Board) (trace log₀ : List ℕ) (x : Left) : Type 0 where
   calls : List Call
@@ -156,14 +142,14 @@ module _ (b₀ : Board) (o₀ : Opened b₀) (trace log₀ : List ℕ) where
   unfolding playedFrom boardAfter leaves
   walk zero at count log cs b f q r h k g = absurd (omega (arith, f, inside trace r .0))
   walk (suc n) at count log cs b f q r h k g =
-      found-case (Walked b₀ trace log₀) (recordAt trace at) _ _ _
+      by-found (Walked b₀ trace log₀) (recordAt trace at) _ _ _
       (λ e. record { calls = cs; records = rw (← at-end trace at (inside trace r .0) e) r; leads = h; ends = rw q counted; logs = g })
       (λ why e. record { calls = cs; records = r; leads = h; ends = unreadable at why e (nine-or-ten trace at why e); logs = g })
       (λ c next e. let o = record-advances trace at c next e in
-      answered-case (Walked b₀ trace log₀) (answerAt b c) _ _
+      if-refused (Walked b₀ trace log₀) (answerAt b c) _ _
       (λ why a. stopped-at b at log cs c next why r h g e a)
       (λ z. walk n next (count + 1) _ (c ∷ cs) (leaves b (call c)) (omega (arith, f, o .0)) (omega (arith, q)) (one-more c next r e)
-      (taken (call c) h (record { accepted = takes b c z; left = refl }))
+      (taken (call c) h (record { accepted = takes b c (given (answerAt b c) z); left = refl }))
       (ap (λ (x : Board). leaves x (call c)) k)
       (logs-on b₀ log₀ b c count log cs q k g)))
 

@@ -1,6 +1,6 @@
 -- A refusal leaves the words: what is read from them and put back is what they were. A number that tells a refusal is no taken call's, and a
 -- refused call gives the state and the bytes back (`who-is-refused`).
-use Prim.Native.Nat.{ℕ, _+_, _*_, _≤_}
+use Prim.Native.Nat.{ℕ, _+_, _*_, _<_}
 use mathlib.Core.Bool.{Bool, true, false, false≢true}
 use mathlib.Core.Path.{_≡_, refl, sym, _∙_, ap}
 use native.Mathlib.Omega.{arith}
@@ -8,10 +8,13 @@ use Rattle.memory.specs.Bytes.{Mem}
 use Rattle.memory.specs.Words.{pick}
 use Rattle.memory.proofs.Tests.{split}
 use Rattle.answers.specs.declared.Answer.{Answer}
-use Rattle.answers.specs.declared.Answer.the-variants.{Nothing, Register, Served, Page, Blank, Refused}
+use Rattle.answers.specs.declared.Answer.the-variants.{Refused}
 use Rattle.answers.specs.declared.Refusal.{Refusal}
-use Rattle.answers.specs.declared.Refusal.the-variants.{Prg, Chr, Ram, Buffers, State as StateBroken, Audio, Counter, Split, Kind, Number, Length}
+use Rattle.answers.specs.Letters.{letterOf, valueOf}
 use Rattle.answers.specs.Numbers.{numberOf}
+use Rattle.answers.specs.Refused.{isRefused}
+use Rattle.answers.proofs.Cases.{refused-or-not, letter-range}
+use Rattle.answers.proofs.NumberLaws.{numbered}
 use Rattle.scanline.specs.declared.Detector.{Detector}
 use Rattle.scanline.specs.Ranges.{counterRefused}
 use Rattle.scanline.specs.Steps.{interruptUp}
@@ -30,41 +33,22 @@ use Rattle.board_ppu.specs.Fetch.{ppuFetch}
 use Rattle.board_ppu.specs.Peeks.{ppuWrite}
 use Rattle.trace.specs.declared.Call.{Call}
 use Rattle.trace.specs.declared.Call.the-variants.{Clock, CpuRead, CpuWrite, PpuRegister, PpuFetch, Reset, PpuWrite}
-use Rattle.promises.specs.Refused.{isRefused}
 use Rattle.promises.proofs.Promised.{who-is-refused}
 use Rattle.words.specs.Promise.{Lent}
 use Rattle.words.specs.Words.{Words, good, stateOf, wordsOf}
 use Rattle.words.proofs.RoundLaws.{words-back}
 use Rattle.told.specs.Told.{noState, toldPlain, toldWith}
-use Rattle.host.specs.Hosted.{LeftWords, leftWords, onWords, LeftMemory, leftMemory, onMemory}
+use Rattle.host.specs.Hosted.{LeftWords, leftWords, onWords, leftMemory, onMemory}
 use Rattle.host.specs.Promise.{withMemory, calledOn, RefusalsLeaveAll}
 use Rattle.host.proofs.HostLaws.{words-stay, words-left, memory-stays, memory-left}
 
--- The numbers of refusals: `!` is the least letter.
-few : (r : Refusal) → numberOf r ≤ 11
-few Prg = omega arith
-few Chr = omega arith
-few Ram = omega arith
-few Buffers = omega arith
-few StateBroken = omega arith
-few Audio = omega arith
-few Counter = omega arith
-few Split = omega arith
-few Kind = omega arith
-few Number = omega arith
-few Length = omega arith
-
-above : (up : Bool) (l v : ℕ) (r : Refusal) → 34 ≤ l → pick up (l * 256 + v + 32768) (l * 256 + v) ≡ 33 * 256 + numberOf r → ⊥
-above true l v r h e = omega (arith, h, e, few r)
-above false l v r h e = omega (arith, h, e, few r)
+-- The least letter is `!`, with a refusal's number: what another answer tells is above it.
+above : (up : Bool) (l v : ℕ) (r : Refusal) → 0x21 < l → pick up (l * 256 + v + 32768) (l * 256 + v) ≡ 0x21 * 256 + numberOf r → ⊥
+above true l v r h e = omega (arith, h, e, numbered .most r)
+above false l v r h e = omega (arith, h, e, numbered .most r)
 
 tells : (a : Answer) (d : Detector) (r : Refusal) → toldWith a d ≡ toldPlain (Refused r) → isRefused a ≡ true
-tells Nothing d r e = absurd (above (interruptUp d) 0x2D 0 r (omega arith) e)
-tells (Register v) d r e = absurd (above (interruptUp d) 0x52 v r (omega arith) e)
-tells (Served v) d r e = absurd (above (interruptUp d) 0x53 v r (omega arith) e)
-tells (Page v) d r e = absurd (above (interruptUp d) 0x4D v r (omega arith) e)
-tells Blank d r e = absurd (above (interruptUp d) 0x42 0 r (omega arith) e)
-tells (Refused x) d r e = refl
+tells a d r e = refused-or-not a (λ why w. ap isRefused w) (λ f. absurd (above (interruptUp d) (letterOf a) (valueOf a) r (letter-range a .1 f) (rw f at e)))
 
 module _ (w : Words) (l : Lent w) (r : Refusal) where
   back : good (w .bytes) ≡ true → (s : State) → s ≡ stateOf w → wordsOf s ≡ w

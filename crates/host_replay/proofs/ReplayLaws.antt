@@ -11,6 +11,7 @@ use Rattle.memory.specs.Words.{pick}
 use Rattle.memory.proofs.Tests.{split}
 use Rattle.answers.specs.declared.Refusal.{Refusal}
 use Rattle.answers.specs.Numbers.{numberOf}
+use Rattle.answers.proofs.Cases.{if-refused}
 use Rattle.state.specs.declared.gate.Gate.{Gate}
 use Rattle.state.specs.declared.gate.Gate.the-variants.{Open, Shut}
 use Rattle.state.specs.declared.State.{State}
@@ -23,7 +24,7 @@ use Rattle.player.specs.declared.Ending.{Ending}
 use Rattle.player.specs.declared.Ending.the-variants.{Done, Stopped}
 use Rattle.player.specs.declared.Replayed.{Replayed}
 use Rattle.player.specs.Replay.{Left, leftOf, ended, playedFrom, replayed}
-use Rattle.player.proofs.Ways.{by-found, by-answer}
+use Rattle.player.proofs.Ways.{by-found}
 use Rattle.words.specs.Promise.{Lent}
 use Rattle.words.specs.Words.{Words, good, stateOf, wordsOf}
 use Rattle.words.proofs.RoundLaws.{words-back}
@@ -58,10 +59,10 @@ from-within : (k : ℕ) (trace : List ℕ) (at n : ℕ) (s : State) (m : Mem) (l
 unfolding playedFrom
 from-within zero trace at n s m log i h = omega (arith, i, h)
 from-within (suc k) trace at n s m log i h =
-    by-found (Within (length trace)) (recordAt trace at) _ _ _ (omega (arith, i, h)) (λ why. h)
+    by-found (Within (length trace)) (recordAt trace at) _ _ _ (λ e. omega (arith, i, h)) (λ why e. h)
     (λ call next r. let o = record-advances trace at call next r in
-    by-answer (Within (length trace)) (called call s m .out .answer) _ _ (λ why. h)
-    (from-within k trace next (n + 1) _ _ _ (omega (arith, i, o .0)) (o .1)))
+    if-refused (Within (length trace)) (called call s m .out .answer) _ _ (λ why e. h)
+    (λ e. from-within k trace next (n + 1) _ _ _ (omega (arith, i, o .0)) (o .1)))
 
 pub short : (s : State) (trace : List ℕ) (m : Mem) (log : List ℕ) → Within 8192 (replayed s trace m log)
 unfolding replayed
@@ -96,10 +97,10 @@ unfolding playedFrom
 stops-past zero trace at n s m log p i h short = λ a b. omega (arith, a, i, h, short)
 stops-past (suc k) trace at n s m log p i h short =
     let stop : (why : Refusal) → Past (ended (Stopped at why) s m log) = λ why. past-stop at why p (omega (arith, h, short)) in
-    by-found Past (recordAt trace at) _ _ _ (λ a b. omega (arith, a, i, h, short)) stop
+    by-found Past (recordAt trace at) _ _ _ (λ e a b. omega (arith, a, i, h, short)) (λ why e. stop why)
     (λ call next r. let o = record-advances trace at call next r in
-    by-answer Past (called call s m .out .answer) _ _ stop
-    (stops-past k trace next (n + 1) _ _ _ (omega (arith, o .0)) (omega (arith, i, o .0)) (o .1) short))
+    if-refused Past (called call s m .out .answer) _ _ (λ why e. stop why)
+    (λ e. stops-past k trace next (n + 1) _ _ _ (omega (arith, o .0)) (omega (arith, i, o .0)) (o .1) short))
 
 -- A replay that stopped at place 0 left everything as it was.
 abbrev Stays : State → Mem → List ℕ → Left → Type 0
@@ -109,10 +110,10 @@ first-stays : (k : ℕ) (trace : List ℕ) (s : State) (m : Mem) (log : List ℕ
 unfolding playedFrom
 first-stays zero trace s m log short = λ a b. refl
 first-stays (suc k) trace s m log short =
-    by-found (Stays s m log) (recordAt trace 0) _ _ _ (λ a b. refl) (λ why a b. refl)
+    by-found (Stays s m log) (recordAt trace 0) _ _ _ (λ e a b. refl) (λ why e a b. refl)
     (λ call next r. let o = record-advances trace 0 call next r in
-    by-answer (Stays s m log) (called call s m .out .answer) _ _ (λ why a b. refl)
-    (λ a b. absurd (stops-past k trace next 1 _ _ _ (o .0) (o .0) (o .1) short a b)))
+    if-refused (Stays s m log) (called call s m .out .answer) _ _ (λ why e a b. refl)
+    (λ e a b. absurd (stops-past k trace next 1 _ _ _ (o .0) (o .0) (o .1) short a b)))
 
 replayed-stays : (s : State) (trace : List ℕ) (m : Mem) (log : List ℕ) → Stays s m log (replayed s trace m log)
 unfolding replayed

@@ -1,6 +1,6 @@
 -- The loop over records: what holds at its head, and what one record does to that.
 use Prim.Native.Nat.{ℕ, zero, suc, _+_, _*_, _-_, _<_, _≤_}
-use mathlib.Core.Bool.{Bool, true, false, false≢true}
+use mathlib.Core.Bool.{Bool}
 use mathlib.Core.List.{List}
 use mathlib.Core.Path.{_≡_, refl, sym, _∙_}
 use native.Mathlib.Omega.{arith}
@@ -10,9 +10,10 @@ use lib.ListN.{length, set, length-set}
 use Rattle.memory.specs.Bytes.{Mem}
 use Rattle.memory.proofs.Tests.{split}
 use Rattle.answers.specs.declared.Answer.{Answer}
-use Rattle.answers.specs.declared.Answer.the-variants.{Nothing, Register, Served, Page, Blank, Refused}
+use Rattle.answers.specs.declared.Answer.the-variants.{Refused}
 use Rattle.answers.specs.declared.Refusal.{Refusal}
 use Rattle.answers.specs.Letters.{valueOf}
+use Rattle.answers.proofs.Cases.{accepted-goes-on}
 use Rattle.scanline.specs.Steps.{interruptUp}
 use Rattle.state.specs.declared.gate.Gate.the-variants.{Open}
 use Rattle.state.specs.declared.State.{State}
@@ -32,16 +33,7 @@ use Rattle.promises.proofs.Promised.{gate-stays-open}
 use Rattle.promises.proofs.Refusals.{Given}
 use Rattle.player.specs.declared.Ending.the-variants.{Done, Stopped}
 use Rattle.logs.specs.Logs.{logLetter, logged}
-use Rattle.player.specs.Replay.{Left, ended, answered, playedFrom, played}
-
--- An answer that is no refusal goes on.
-pub answered-given : {A : Type 0} (a : Answer) (f : Refusal → A) (x : A) → Given a → answered a f x ≡ x
-answered-given Nothing f x g = refl
-answered-given (Register v) f x g = refl
-answered-given (Served v) f x g = refl
-answered-given (Page v) f x g = refl
-answered-given Blank f x g = refl
-answered-given (Refused r) f x g = absurd (false≢true (sym g))
+use Rattle.player.specs.Replay.{Left, ended, playedFrom, played}
 
 -- Every call keeps the gate open.
 pub call-open : (call : Call) (s : State) (m : Mem) → gateMem s m ≡ Open → gateMem (called call s m .out .state) (called call s m .mem) ≡ Open
@@ -165,7 +157,7 @@ module _ (trace : List ℕ) (all : Left) (m₀ : Mem) (log₀ : List ℕ) (at co
           gate = rw p at (call-open call s m (g .gate));
           sizes = same-on (g .sizes) (rw p at (call-sizes call s m (g .gate)));
           log-size = logged-length log count a (interruptUp (t .irq)) ∙ g .log-size;
-          rest = sym (answered-given a _ _ y) ∙ (rw (found, p) at r);
+          rest = sym (accepted-goes-on a _ _ y) ∙ (rw (found, p) at r);
         }
 
     -- An accepted call goes on from what it leaves.

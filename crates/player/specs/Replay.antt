@@ -5,10 +5,9 @@ use mathlib.Core.List.{List}
 use lib.ListN.{length}
 use Rattle.memory.specs.Bytes.{Mem}
 use Rattle.memory.specs.Words.{pick}
-use Rattle.answers.specs.declared.Answer.{Answer}
-use Rattle.answers.specs.declared.Answer.the-variants.{Nothing, Register, Served, Page, Blank, Refused}
 use Rattle.answers.specs.declared.Refusal.{Refusal}
 use Rattle.answers.specs.declared.Refusal.the-variants.{Length}
+use Rattle.answers.specs.Refused.{ifRefused}
 use Rattle.scanline.specs.Steps.{interruptUp}
 use Rattle.state.specs.declared.State.{State}
 use Rattle.state.specs.Gate.{gateMem}
@@ -35,15 +34,6 @@ leftOf r m log = record { out = r; mem = m; log = log }
 abbrev pub ended : Ending → State → Mem → List ℕ → Left
 ended e s m log = leftOf (record { ending = e; state = s }) m log
 
--- An answer: a refusal, or one that replay goes on from.
-abbrev pub answered : {A : Type 0} → Answer → (Refusal → A) → A → A
-answered (Refused why) stop go = stop why
-answered Nothing stop go = go
-answered (Register v) stop go = go
-answered (Served v) stop go = go
-answered (Page v) stop go = go
-answered Blank stop go = go
-
 -- What stands at a place: the end, an unreadable record, or a record.
 abbrev pub found : {A : Type 0} → Found → A → (Refusal → A) → (Call → ℕ → A) → A
 found End done stop play = done
@@ -60,7 +50,7 @@ playedFrom (suc n) trace at count s m log =
     (ended (Done count) s m log)
     (λ (why : Refusal). ended (Stopped at why) s m log)
     (λ (call : Call) (next : ℕ). let after = called call s m in
-    answered (after .out .answer)
+    ifRefused (after .out .answer)
     (λ (why : Refusal). ended (Stopped at why) s m log)
     (playedFrom n trace next (count + 1) (after .out .state) (after .mem) (logged log count (after .out .answer) (interruptUp (after .out .state .irq)))))
 

@@ -11,6 +11,7 @@ use Rattle.memory.proofs.Tests.{pick-keeps}
 use Rattle.answers.specs.declared.Answer.{Answer}
 use Rattle.answers.specs.declared.Answer.the-variants.{Refused}
 use Rattle.answers.specs.declared.Refusal.the-variants.{Audio}
+use Rattle.answers.specs.Refused.{isRefused}
 use Rattle.state.specs.declared.gate.Gate.{Gate}
 use Rattle.state.specs.declared.gate.Gate.the-variants.{Open, Shut}
 use Rattle.state.specs.declared.State.{State}
@@ -18,7 +19,6 @@ use Rattle.cpu.specs.Groups.{within}
 use Rattle.cpu.specs.Reads.{shownAs, pageAnswer, registerRead, cpuAnswer}
 use Rattle.cpu.specs.Writes.{prgWordAt}
 use Rattle.board.specs.Outcomes.{outcome, refused, behind}
-use Rattle.promises.specs.Refused.{isRefused}
 
 abbrev pub Given : Answer → Type 0
 Given a = isRefused a ≡ false

@@ -3,17 +3,16 @@
 -- other calls never; so a board that refuses every call is shut out. At a shut gate every call gives the gate's refusal. The gate, `gateMem`, is
 -- refusals 4 and 5 (crate `state`, specs/Gate.antt). One equation over all calls and boards: `Refusals` of crate `histories`.
 use Prim.Native.Nat.{ℕ}
-use mathlib.Core.Bool.{Bool, true, false}
+use mathlib.Core.Bool.{true, false}
 use mathlib.Core.Path.{_≡_}
-use lib.Dec.{eqb}
 use Rattle.memory.specs.Bytes.{Mem}
 use Rattle.memory.specs.Words.{pick}
-use Rattle.answers.specs.declared.Answer.{Answer}
 use Rattle.answers.specs.declared.Answer.the-variants.{Nothing, Refused}
 use Rattle.answers.specs.declared.Refusal.{Refusal}
 use Rattle.answers.specs.declared.Refusal.the-variants.{State as StateBroken}
 use Rattle.answers.specs.Letters.{letterOf, valueOf}
 use Rattle.answers.specs.Numbers.{numberOf}
+use Rattle.answers.specs.Refused.{isRefused}
 use Rattle.scanline.specs.Ranges.{counterRefused}
 use Rattle.scanline.specs.Steps.{interruptUp}
 use Rattle.state.specs.declared.gate.Gate.the-variants.{Open, Shut}
@@ -30,10 +29,6 @@ use Rattle.board.specs.Outcomes.{refused, afterOf}
 use Rattle.board.specs.Whole.{resetCall, clockCall, ppuRegisterCall, mirroringCall, interruptCall}
 use Rattle.board_ppu.specs.Fetch.{ppuFetch}
 use Rattle.board_ppu.specs.Peeks.{ppuPeek, spritePeek, ppuWrite}
-
--- A refusal, by the letter that 01 prints for it.
-abbrev pub isRefused : Answer → Bool
-isRefused a = eqb (letterOf a) 0x21
 
 -- "A refusal has one number from 01 .. returns the state as handed in".
 pub record RefusedWith (n : ℕ) (s : State) (o : Outcome) : Type 0 where

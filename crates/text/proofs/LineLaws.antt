@@ -5,6 +5,7 @@ use mathlib.Core.List.{List, [], _∷_, _++_}
 use mathlib.Core.Path.{_≡_, refl, sym, ap, _∙_}
 use lib.Seq.{append-snoc}
 use Rattle.memory.specs.Words.{pick, asBit}
+use Rattle.memory.proofs.Tests.{split}
 use Rattle.answers.specs.declared.Answer.{Answer}
 use Rattle.answers.specs.declared.Answer.the-variants.{Nothing, Register, Served, Page, Blank, Refused}
 use Rattle.answers.specs.declared.Refusal.{Refusal}
@@ -48,14 +49,9 @@ last-word s t n m e f = f ∙ ap (λ (k : ℕ). textWritten s (digits k ++ (10 �
 
 pub logged : (number kind : ℕ) (a : Answer) (up : Bool) → ((why : Refusal) → a ≡ Refused why → ⊥)
     → loggedLine number kind (letterOf a + 128 * asBit up) (valueOf a) ≡ acceptedLine number kind a up
-logged number kind Nothing true h = refl
-logged number kind Nothing false h = refl
-logged number kind (Register v) true h = refl
-logged number kind (Register v) false h = refl
-logged number kind (Served v) true h = refl
-logged number kind (Served v) false h = refl
-logged number kind (Page v) true h = refl
-logged number kind (Page v) false h = refl
-logged number kind Blank true h = refl
-logged number kind Blank false h = refl
+logged number kind Nothing up h = split up (λ t. rw t) (λ t. rw t)
+logged number kind (Register v) up h = split up (λ t. rw t) (λ t. rw t)
+logged number kind (Served v) up h = split up (λ t. rw t) (λ t. rw t)
+logged number kind (Page v) up h = split up (λ t. rw t) (λ t. rw t)
+logged number kind Blank up h = split up (λ t. rw t) (λ t. rw t)
 logged number kind (Refused why) up h = absurd (h why refl)

@@ -1,11 +1,12 @@
 -- What the host is told, as one number.
 use Prim.Native.Nat.{ℕ, _+_, _*_}
-use mathlib.Core.Bool.{Bool, true, false, _&&_}
+use mathlib.Core.Bool.{Bool, _&&_, not}
 use Rattle.memory.specs.Words.{pick}
 use Rattle.answers.specs.declared.Answer.{Answer}
-use Rattle.answers.specs.declared.Answer.the-variants.{Nothing, Register, Served, Page, Blank, Refused}
+use Rattle.answers.specs.declared.Answer.the-variants.{Refused}
 use Rattle.answers.specs.declared.Refusal.the-variants.{State as StateBroken}
 use Rattle.answers.specs.Letters.{letterOf, valueOf}
+use Rattle.answers.specs.Refused.{isRefused}
 use Rattle.board.specs.declared.Interrupt.{Interrupt}
 use Rattle.board.specs.declared.Interrupt.the-variants.{Up, Down, Refused as InterruptRefused}
 use Rattle.board.specs.declared.Told.{Told}
@@ -24,12 +25,7 @@ noState = toldPlain (Refused StateBroken)
 
 -- A call that was taken, not refused.
 abbrev pub taken : Answer → Bool
-taken Nothing = true
-taken (Register v) = true
-taken (Served v) = true
-taken (Page v) = true
-taken Blank = true
-taken (Refused r) = false
+taken a = not (isRefused a)
 
 -- After a call that was taken, 32,768 more where the interrupt is up.
 abbrev pub toldWith : Answer → Detector → ℕ

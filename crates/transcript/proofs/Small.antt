@@ -15,10 +15,7 @@ use Rattle.memory.specs.Bytes.{Mem, byteAt}
 use Rattle.memory.specs.Words.{pick}
 use Rattle.memory.proofs.Tests.{pick-keeps}
 use Rattle.answers.specs.declared.Answer.{Answer}
-use Rattle.answers.specs.declared.Refusal.{Refusal}
-use Rattle.answers.specs.declared.Refusal.the-variants.{Prg, Chr as ChrLength, Ram, Buffers, State as Broken, Audio, Counter, Split, Kind, Number, Length}
 use Rattle.answers.specs.Letters.{valueOf}
-use Rattle.answers.specs.Numbers.{numberOf}
 use Rattle.registers.specs.declared.Regs.{Regs}
 use Rattle.registers.specs.Registers.{attributeUse, nametableUse}
 use Rattle.banks.specs.Names.{selector}
@@ -71,19 +68,6 @@ SmallState s = SmallGroups (s .regs) (s .vsplit) (s .irq .«irq_scanline») (s .
 
 abbrev pub SmallAnswer : Answer → Type 0
 SmallAnswer a = valueOf a < 256
-
-pub refusal-small : (why : Refusal) → numberOf why < 100
-refusal-small Prg = omega arith
-refusal-small ChrLength = omega arith
-refusal-small Ram = omega arith
-refusal-small Buffers = omega arith
-refusal-small Broken = omega arith
-refusal-small Audio = omega arith
-refusal-small Counter = omega arith
-refusal-small Split = omega arith
-refusal-small Kind = omega arith
-refusal-small Number = omega arith
-refusal-small Length = omega arith
 
 -- Pages ------------------------------------------------------------------------------------------------------------------------------
 

@@ -15,6 +15,7 @@ use Rattle.memory.specs.Words.{pick}
 use Rattle.memory.proofs.Tests.{pick-keeps}
 use Rattle.answers.specs.declared.Refusal.{Refusal}
 use Rattle.answers.specs.declared.Refusal.the-variants.{Audio, Counter, Split, State as Broken}
+use Rattle.answers.proofs.NumberLaws.{numbered}
 use Rattle.registers.specs.declared.Regs.{Regs}
 use Rattle.registers.specs.Registers.{attributeUse, nametableUse, written}
 use Rattle.scanline.specs.declared.Detector.{Detector}
@@ -45,7 +46,7 @@ use Rattle.trace.specs.declared.Call.{Call}
 use Rattle.trace.specs.declared.Call.the-variants.{Clock, CpuRead, CpuWrite, PpuRegister, PpuFetch, Reset, PpuWrite}
 use Rattle.trace.specs.Promise.{InRange}
 use Rattle.calls.specs.Called.{overLent, called}
-use Rattle.transcript.proofs.Small.{Bytes, SmallRegs, SmallSplit, SmallMem, SmallState, SmallAnswer, refusal-small, page-small, read-small, counted-small, pattern-small}
+use Rattle.transcript.proofs.Small.{Bytes, SmallRegs, SmallSplit, SmallMem, SmallState, SmallAnswer, page-small, read-small, counted-small, pattern-small}
 
 -- Stores -----------------------------------------------------------------------------------------------------------------------------
 
@@ -146,7 +147,7 @@ abbrev SmallOut : Outcome → Type 0
 SmallOut o = SmallAnswer (o .answer) × SmallState (o .state)
 
 refused-small : (s : State) (why : Refusal) → SmallState s → SmallOut (refused s why)
-refused-small s why h = (omega (arith, refusal-small why), h)
+refused-small s why h = (omega (arith, numbered .most why), h)
 
 unstored : (o : Outcome) (m : Mem) → SmallOut o → SmallMem m → SmallAfter (afterOf o m)
 unstored o m h k = record { answer = h .0; state = h .1; mem = k }

@@ -10,11 +10,11 @@ use lib.ListN.{length, getD, set, length-set}
 use lib.Seq.{getD-set-same, getD-set-other}
 use Rattle.memory.specs.Bytes.{Mem}
 use Rattle.memory.specs.Words.{asBit}
-use Rattle.memory.proofs.Tests.{split}
 use Rattle.answers.specs.declared.Answer.{Answer}
-use Rattle.answers.specs.declared.Answer.the-variants.{Nothing, Register, Served, Page, Blank, Refused}
+use Rattle.answers.specs.declared.Answer.the-variants.{Refused}
 use Rattle.answers.specs.declared.Refusal.{Refusal}
 use Rattle.answers.specs.Letters.{letterOf, valueOf}
+use Rattle.answers.proofs.Cases.{if-refused, refused-or-not, accepted-goes-on}
 use Rattle.scanline.specs.Steps.{interruptUp}
 use Rattle.state.specs.declared.State.{State}
 use Rattle.board.specs.Outcomes.{After}
@@ -26,12 +26,11 @@ use Rattle.trace.proofs.RecordLaws.{record-advances}
 use Rattle.text.specs.Lines.{loggedLine, acceptedLine}
 use Rattle.text.proofs.LineLaws.{logged as logged-line}
 use Rattle.calls.specs.Called.{called}
-use Rattle.promises.specs.Refused.{isRefused}
 use Rattle.promises.proofs.Refusals.{Given}
 use Rattle.logs.specs.Logs.{logLetter, logged}
 use Rattle.player.specs.Replay.{Left, playedFrom}
-use Rattle.player.proofs.Steps.{answered-given, logged-length}
-use Rattle.player.proofs.Ways.{by-found, by-answer}
+use Rattle.player.proofs.Steps.{logged-length}
+use Rattle.player.proofs.Ways.{by-found}
 use Rattle.transcript.specs.Printed.{stoppedAt, printedFrom}
 use Rattle.transcript.specs.Told.{toldFrom, PrintedIsTold}
 
@@ -46,9 +45,9 @@ stops-later : (k : ℕ) (trace : List ℕ) (at n : ℕ) (s : State) (m : Mem) (l
 unfolding playedFrom
 stops-later zero trace at n s m log = λ b h. refl
 stops-later (suc k) trace at n s m log =
-    by-found (NotBefore at) (recordAt trace at) _ _ _ (λ b h. refl) (λ why b h. stop-apart at b h)
-    (λ call next r. by-answer (NotBefore at) (called call s m .out .answer) _ _ (λ why b h. stop-apart at b h)
-    (λ b h. stops-later k trace next (n + 1) _ _ _ b (omega (arith, h, record-advances trace at call next r .0))))
+    by-found (NotBefore at) (recordAt trace at) _ _ _ (λ e b h. refl) (λ why e b h. stop-apart at b h)
+    (λ call next r. if-refused (NotBefore at) (called call s m .out .answer) _ _ (λ why e b h. stop-apart at b h)
+    (λ e b h. stops-later k trace next (n + 1) _ _ _ b (omega (arith, h, record-advances trace at call next r .0))))
 
 -- What is logged stays: later records are logged behind it.
 abbrev Keeps : ℕ → List ℕ → Left → Type 0
@@ -64,18 +63,9 @@ keeps-log : (k : ℕ) (trace : List ℕ) (at n : ℕ) (s : State) (m : Mem) (log
 unfolding playedFrom
 keeps-log zero trace at n s m log = λ i h. refl
 keeps-log (suc k) trace at n s m log =
-    by-found (Keeps n log) (recordAt trace at) _ _ _ (λ i h. refl) (λ why i h. refl)
-    (λ call next r. by-answer (Keeps n log) (called call s m .out .answer) _ _ (λ why i h. refl)
-    (λ i h. keeps-log k trace next (n + 1) _ _ _ i (omega (arith, h)) ∙ logged-below log n _ _ i h))
-
--- An answer that is a refusal has its cause.
-refused-is : (a : Answer) → isRefused a ≡ true → (why : Refusal) × (a ≡ Refused why)
-refused-is (Refused why) t = (why, refl)
-refused-is Nothing t = absurd (false≢true t)
-refused-is (Register v) t = absurd (false≢true t)
-refused-is (Served v) t = absurd (false≢true t)
-refused-is (Page v) t = absurd (false≢true t)
-refused-is Blank t = absurd (false≢true t)
+    by-found (Keeps n log) (recordAt trace at) _ _ _ (λ e i h. refl) (λ why e i h. refl)
+    (λ call next r. if-refused (Keeps n log) (called call s m .out .answer) _ _ (λ why e i h. refl)
+    (λ e i h. keeps-log k trace next (n + 1) _ _ _ i (omega (arith, h)) ∙ logged-below log n _ _ i h))
 
 -- The two bytes of a record in a log that has room for them.
 first-byte : (log : List ℕ) (n : ℕ) (a : Answer) (up : Bool) → 2 * n + 1 < length log → getD (logged log n a up) (2 * n) 0 ≡ logLetter a up
@@ -109,7 +99,7 @@ module _ (k : ℕ) (trace : List ℕ) (at n : ℕ) (s : State) (m : Mem) (log : 
 
   goes-on : Given (after .out .answer) → playedFrom (suc k) trace at n s m log ≡ on
   unfolding playedFrom
-  goes-on g = rw r (answered-given (after .out .answer) _ _ g)
+  goes-on g = rw r (accepted-goes-on (after .out .answer) _ _ g)
 
   printed-on : printedFrom (suc k) trace at n (on .log) (on .out .ending)
       ≡ loggedLine n (kindOf call) (getD (on .log) (2 * n) 0) (getD (on .log) (2 * n + 1) 0) ++ printedFrom k trace next (n + 1) (on .log) (on .out .ending)
@@ -120,7 +110,7 @@ module _ (k : ℕ) (trace : List ℕ) (at n : ℕ) (s : State) (m : Mem) (log : 
       → toldFrom (suc k) trace at n s m
       ≡ acceptedLine n (kindOf call) (after .out .answer) (interruptUp (after .out .state .irq)) ++ toldFrom k trace next (n + 1) (after .out .state) (after .mem)
   unfolding toldFrom
-  told-on g = rw r (answered-given (after .out .answer) _ _ g)
+  told-on g = rw r (accepted-goes-on (after .out .answer) _ _ g)
 
   line-on : Given (after .out .answer) → 2 * n + 1 < length log
       → loggedLine n (kindOf call) (getD (on .log) (2 * n) 0) (getD (on .log) (2 * n + 1) 0) ≡ acceptedLine n (kindOf call) (after .out .answer) (interruptUp (after .out .state .irq))
@@ -161,8 +151,7 @@ on-record k ih trace at n s m log i h (Unreadable why) r = unreadable-here k tra
 on-record k ih trace at n s m log i h (Record call next) r =
     let o = record-advances trace at call next r in
     let c = called call s m in
-    split (isRefused (c .out .answer))
-    (λ t. let w = refused-is (c .out .answer) t in refused-here k trace at n s m log call next r (w .0) (w .1))
+    refused-or-not (c .out .answer) (refused-here k trace at n s m log call next r)
     (λ g.
     ap (λ (l : Left). printedFrom (suc k) trace at n (l .log) (l .out .ending)) (goes-on k trace at n s m log call next r g)
     ∙ printed-on k trace at n s m log call next r

@@ -2,32 +2,31 @@
 use Prim.Native.Nat.{ℕ, zero, suc, _+_, _-_, _*_, _<_, _≤_}
 use mathlib.Core.Bool.{Bool, true, false}
 use mathlib.Core.List.{List, [], _∷_}
-use mathlib.Core.Path.{_≡_, refl}
+use mathlib.Core.Path.{_≡_}
 use native.Mathlib.Omega.{arith}
 use lib.ListN.{length, length-append}
 use Rattle.memory.specs.Bytes.{Mem}
 use Rattle.memory.specs.Words.{asBit}
 use Rattle.answers.specs.declared.Answer.{Answer}
-use Rattle.answers.specs.declared.Answer.the-variants.{Nothing, Register, Served, Page, Blank, Refused}
 use Rattle.answers.specs.declared.Refusal.{Refusal}
 use Rattle.answers.specs.declared.Refusal.the-variants.{Length}
 use Rattle.answers.specs.Letters.{letterOf, hasValue, valueOf}
 use Rattle.answers.specs.Numbers.{numberOf}
+use Rattle.answers.proofs.Cases.{if-refused}
+use Rattle.answers.proofs.NumberLaws.{numbered}
 use Rattle.scanline.specs.Steps.{interruptUp}
 use Rattle.state.specs.declared.State.{State}
 use Rattle.trace.specs.declared.Call.{Call}
 use Rattle.trace.specs.declared.Call.the-variants.{Clock, CpuRead, CpuWrite, PpuRegister, PpuFetch, Reset, PpuWrite}
-use Rattle.trace.specs.declared.Found.{Found}
-use Rattle.trace.specs.declared.Found.the-variants.{End, Record, Refused as Unreadable}
 use Rattle.trace.specs.Records.{kindOf, recordAt}
 use Rattle.trace.proofs.RecordLaws.{record-sound}
 use Rattle.text.specs.Digits.{digits}
 use Rattle.text.specs.Lines.{line, answerWords, acceptedLine, refusedLine, unreadableLine, tooLongLine, endLine}
 use Rattle.text.proofs.DigitLaws.{few-digits}
 use Rattle.calls.specs.Called.{called}
-use Rattle.player.specs.Replay.{found, answered}
+use Rattle.player.proofs.Ways.{by-found}
 use Rattle.transcript.specs.Told.{toldFrom}
-use Rattle.transcript.proofs.Small.{SmallMem, SmallState, refusal-small}
+use Rattle.transcript.proofs.Small.{SmallMem, SmallState}
 use Rattle.transcript.proofs.SmallKept.{called-small}
 
 -- Lines ------------------------------------------------------------------------------------------------------------------------------
@@ -44,6 +43,9 @@ answer-short : (letter : ℕ) (has : Bool) (v : ℕ) (last : List ℕ) → v < 1
 answer-short letter true v last h =
     omega (arith, word-length (letter ∷ []) (digits v ∷ []) last, word-length (digits v) [] last, last-length last, few-digits 2 v h)
 answer-short letter false v last h = omega (arith, word-length (letter ∷ []) [] last, last-length last)
+
+two-digits : (why : Refusal) → length (digits (numberOf why)) ≤ 2
+two-digits why = few-digits 1 (numberOf why) (omega (arith, numbered .most why))
 
 bit-short : (b : Bool) → length (digits (asBit b)) ≤ 1
 bit-short true = few-digits 0 1 (omega arith)
@@ -67,12 +69,12 @@ accepted-short n kind a up h k v =
 refused-short : (n kind : ℕ) (why : Refusal) → n < 10000 → kind < 10 → length (refusedLine n kind why) ≤ 15
 refused-short n kind why h k =
     let last = digits (numberOf why) in
-    omega (arith, word-length (digits n) (digits kind ∷ (0x21 ∷ []) ∷ []) last, word-length (digits kind) ((0x21 ∷ []) ∷ []) last, word-length (0x21 ∷ []) [] last, last-length last, few-digits 3 n h, few-digits 0 kind k, few-digits 1 (numberOf why) (refusal-small why))
+    omega (arith, word-length (digits n) (digits kind ∷ (0x21 ∷ []) ∷ []) last, word-length (digits kind) ((0x21 ∷ []) ∷ []) last, word-length (0x21 ∷ []) [] last, last-length last, few-digits 3 n h, few-digits 0 kind k, two-digits why)
 
 unreadable-short : (n : ℕ) (why : Refusal) → n < 10000 → length (unreadableLine n why) ≤ 15
 unreadable-short n why h =
     let last = digits (numberOf why) in
-    omega (arith, word-length (digits n) ((0x3F ∷ []) ∷ []) last, word-length (0x3F ∷ []) [] last, last-length last, few-digits 3 n h, few-digits 1 (numberOf why) (refusal-small why))
+    omega (arith, word-length (digits n) ((0x3F ∷ []) ∷ []) last, word-length (0x3F ∷ []) [] last, last-length last, few-digits 3 n h, two-digits why)
 
 end-short : (n : ℕ) → n < 10000 → length (endLine n) ≤ 15
 end-short n h = omega (arith, word-length (0x65 ∷ 0x6E ∷ 0x64 ∷ []) [] (digits n), last-length (digits n), few-digits 3 n h)
@@ -80,23 +82,9 @@ end-short n h = omega (arith, word-length (0x65 ∷ 0x6E ∷ 0x64 ∷ []) [] (di
 pub too-long-short : length tooLongLine ≤ 15
 too-long-short =
     let last = digits (numberOf Length) in
-    omega (arith, word-length (0x3F ∷ []) [] last, last-length last, few-digits 1 (numberOf Length) (refusal-small Length))
+    omega (arith, word-length (0x3F ∷ []) [] last, last-length last, two-digits Length)
 
 -- The lines from a place on ------------------------------------------------------------------------------------------------------------
-
-by-found : (P : List ℕ → Type 0) (r : Found) (done : List ℕ) (stop : Refusal → List ℕ) (play : Call → ℕ → List ℕ)
-    → P done → ((why : Refusal) → P (stop why)) → ((call : Call) (next : ℕ) → r ≡ Record call next → P (play call next)) → P (found r done stop play)
-by-found P End done stop play d s p = d
-by-found P (Unreadable why) done stop play d s p = s why
-by-found P (Record call next) done stop play d s p = p call next refl
-
-by-answer : (P : List ℕ → Type 0) (a : Answer) (stop : Refusal → List ℕ) (go : List ℕ) → ((why : Refusal) → P (stop why)) → P go → P (answered a stop go)
-by-answer P (Refused why) stop go s g = s why
-by-answer P Nothing stop go s g = g
-by-answer P (Register v) stop go s g = g
-by-answer P (Served v) stop go s g = g
-by-answer P (Page v) stop go s g = g
-by-answer P Blank stop go s g = g
 
 -- What is left of a trace leaves room for that many lines and the one that ends it.
 abbrev Short : List ℕ → ℕ → List ℕ → Type 0
@@ -107,7 +95,7 @@ unfolding toldFrom
 told-short zero trace at n s m t c i h b = omega arith
 told-short (suc k) trace at n s m t c i h b =
     let few : n < 10000 = omega (arith, t, c, i) in
-    by-found (Short trace at) (recordAt trace at) _ _ _ (omega (arith, end-short n few)) (λ why. omega (arith, unreadable-short n why few))
+    by-found (Short trace at) (recordAt trace at) _ _ _ (λ e. omega (arith, end-short n few)) (λ why e. omega (arith, unreadable-short n why few))
     (λ call next r.
     let o = record-sound trace at call next r in
     let after = called call s m in
@@ -115,5 +103,5 @@ told-short (suc k) trace at n s m t c i h b =
     let rest : Short trace next (toldFrom k trace next (n + 1) (after .out .state) (after .mem)) =
     told-short k trace next (n + 1) (called call s m .out .state) (called call s m .mem) t (omega (arith, c, o .onward)) (o .inside) (small .state) (small .mem) in
     let first = acceptedLine n (kindOf call) (after .out .answer) (interruptUp (after .out .state .irq)) in
-    by-answer (Short trace at) (after .out .answer) _ _ (λ why. omega (arith, refused-short n (kindOf call) why few (kind-small call)))
-    (omega (arith, length-append first (toldFrom k trace next (n + 1) (after .out .state) (after .mem)), rest, accepted-short n (kindOf call) (after .out .answer) (interruptUp (after .out .state .irq)) few (kind-small call) (small .answer), o .onward, o .inside)))
+    if-refused (Short trace at) (after .out .answer) _ _ (λ why e. omega (arith, refused-short n (kindOf call) why few (kind-small call)))
+    (λ e. omega (arith, length-append first (toldFrom k trace next (n + 1) (after .out .state) (after .mem)), rest, accepted-short n (kindOf call) (after .out .answer) (interruptUp (after .out .state .irq)) few (kind-small call) (small .answer), o .onward, o .inside)))

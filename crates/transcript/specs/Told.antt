@@ -9,6 +9,7 @@ use lib.ListN.{length}
 use Rattle.memory.specs.Bytes.{Mem}
 use Rattle.answers.specs.declared.Answer.the-variants.{Nothing}
 use Rattle.answers.specs.declared.Refusal.{Refusal}
+use Rattle.answers.specs.Refused.{ifRefused}
 use Rattle.registers.specs.declared.Mirroring.the-variants.{Horizontal}
 use Rattle.scanline.specs.Steps.{interruptUp}
 use Rattle.state.specs.declared.State.{State}
@@ -20,7 +21,7 @@ use Rattle.trace.specs.Records.{kindOf, recordAt}
 use Rattle.text.specs.Examples.{workedLines}
 use Rattle.text.specs.Lines.{acceptedLine, refusedLine, unreadableLine, tooLongLine, endLine}
 use Rattle.calls.specs.Called.{called}
-use Rattle.player.specs.Replay.{found, answered, playedFrom}
+use Rattle.player.specs.Replay.{found, playedFrom}
 use Rattle.transcript.specs.Cartridge.{transcript}
 use Rattle.transcript.specs.Printed.{printedFrom}
 
@@ -33,7 +34,7 @@ toldFrom (suc k) trace at n s m =
     (endLine n)
     (λ (why : Refusal). unreadableLine n why)
     (λ (call : Call) (next : ℕ). let after = called call s m in
-    answered (after .out .answer)
+    ifRefused (after .out .answer)
     (λ (why : Refusal). refusedLine n (kindOf call) why)
     (acceptedLine n (kindOf call) (after .out .answer) (interruptUp (after .out .state .irq)) ++ toldFrom k trace next (n + 1) (after .out .state) (after .mem)))
 

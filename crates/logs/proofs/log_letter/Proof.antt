@@ -1,12 +1,12 @@
 -- A letter is below 128.
-use Rattle.logs.proofs.Letters.{letter-small}
+use Rattle.answers.proofs.Cases.{letter-range}
 use native.Mathlib.Omega.{arith}
 use borrow.Author.Needs.{needs}
 use Rattle.logs.proofs.log_letter.Statement.{statement}
 use Rattle.logs.proofs.log_letter.Tie as tie
 
 add-result : tie.Need-add-result
-add-result c = rw (c .before .letter-of .ensures) (omega (arith, letter-small (c .before .before .args .answer)))
+add-result c = rw (c .before .letter-of .ensures) (omega (arith, letter-range (c .before .before .args .answer) .0))
 
 returns : tie.Need-returns
 returns c = rw (c .if1 .taken, c .before .letter-of .ensures)
