@@ -1,6 +1,6 @@
 -- What is printed of a replay: its lines, told by the trace, the log and how the replay ended. Assumes nothing.
 use Prim.Native.Nat.{ℕ, zero, suc, _+_, _*_}
-use mathlib.Core.Bool.{Bool, false}
+use mathlib.Core.Bool.{Bool, false, not}
 use mathlib.Core.List.{List, [], _++_}
 use lib.Dec.{eqb}
 use lib.ListN.{length, getD}
@@ -8,6 +8,7 @@ use Rattle.memory.specs.Words.{pick}
 use Rattle.answers.specs.declared.Refusal.{Refusal}
 use Rattle.answers.specs.declared.Refusal.the-variants.{Length}
 use Rattle.trace.specs.declared.Call.{Call}
+use Rattle.trace.specs.declared.Found.{Found}
 use Rattle.trace.specs.Records.{kindOf, recordAt, tooLong}
 use Rattle.text.specs.Lines.{loggedLine, refusedLine, unreadableLine, tooLongLine, endLine}
 use Rattle.player.specs.declared.Ending.{Ending}
@@ -22,6 +23,21 @@ stoppedAt (Stopped place why) at = eqb at place
 abbrev pub whyOf : Ending → Refusal
 whyOf (Done count) = Length
 whyOf (Stopped place why) = why
+
+-- The line of what stands at a place, as record n; whether a record follows it, and where.
+unfoldable pub lineOf : Found → ℕ → ℕ → List ℕ → Ending → List ℕ
+lineOf f at n log e =
+    found f
+    (endLine n)
+    (λ (why : Refusal). unreadableLine n why)
+    (λ (call : Call) (next : ℕ).
+    pick (stoppedAt e at) (refusedLine n (kindOf call) (whyOf e)) (loggedLine n (kindOf call) (getD log (2 * n) 0) (getD log (2 * n + 1) 0)))
+
+unfoldable pub goesOn : Found → ℕ → Ending → Bool
+goesOn f at e = found f false (λ (why : Refusal). false) (λ (call : Call) (next : ℕ). not (stoppedAt e at))
+
+unfoldable pub nextOf : Found → ℕ → ℕ
+nextOf f at = found f at (λ (why : Refusal). at) (λ (call : Call) (next : ℕ). next)
 
 -- The lines from record n on, which begins at a place; at most so many. 01: "One line per record"; "A refused call prints number, kind, `!`, refusal;
 -- an unreadable record prints number, `?`, refusal; either ends it." "Else `end` and the count."
