@@ -1,0 +1,140 @@
+-- A host's calls are a history: by induction over them, what it holds is the words and the memory of a board that was reached.
+use Prim.Native.Nat.{ℕ}
+use mathlib.Core.List.{List, [], _∷_}
+use mathlib.Core.Path.{_≡_, refl, sym, _∙_, ap, subst}
+use native.Mathlib.Omega.{arith}
+use lib.ListN.{length}
+use mathlib.Core.Bool.{not}
+use Rattle.memory.proofs.Tests.{pick-keeps}
+use Rattle.answers.specs.declared.Answer.{Answer}
+use Rattle.answers.specs.declared.Answer.the-variants.{Nothing}
+use Rattle.scanline.specs.declared.Detector.{Detector}
+use Rattle.scanline.specs.Steps.{detectorAtLoad}
+use Rattle.state.specs.declared.State.{State}
+use Rattle.state.specs.Lengths.{prgTaken, chrTaken, ramTaken}
+use Rattle.board.specs.declared.Outcome.{Outcome}
+use Rattle.board.specs.Loads.{loadCall}
+use Rattle.words.specs.Words.{Words, wordsOf}
+use Rattle.words.proofs.RoundLaws.{words-forth}
+use Rattle.told.specs.Told.{toldPlain, toldWith}
+use Rattle.host.specs.Hosted.{LeftWords, leftWords, leavingWords}
+use Rattle.lines.specs.Machine.{Watched}
+use Rattle.lines.specs.Promise.Played.{at-load, taken as going-on}
+use Rattle.histories.specs.Boards.{Board, Made, leaves, number, numberIn}
+use Rattle.histories.specs.Histories.{Load, first, Reached}
+use Rattle.histories.proofs.Along.{load-watched}
+use Rattle.histories.proofs.GivenBack.{refusals}
+use Rattle.served.specs.Held.{Held, held, boardOf, heldOf, Hearing}
+use Rattle.served.specs.Held.Hearing.{number as hear}
+use Rattle.served.specs.Calls.{Loading, loading, Loads, Calls}
+use Rattle.served.specs.Served.{hears, Refusing, Hosted, IsAccepted, loadOf, loadingOf, IsHistory, HostIsHistory}
+use Rattle.served.specs.Served.Hosted.{loaded, taken, refused}
+use Rattle.served.proofs.Lending.{lends, lends-load}
+use Rattle.served.proofs.Refusing.{answer-with, answer-plain, just}
+use Rattle.served.proofs.Steps.{Gives, step}
+
+-- The load ------------------------------------------------------------------------------------------------------------------------------
+
+load-left : (x : Loading) → Loads x → leftWords (x .told) (x .words) ≡ leavingWords (loadCall (x .mem) (x .as-ram) (x .mirroring))
+unfolding Loads
+load-left x (κ, a, r, e, t, q) = subst (λ (y : Loading). leftWords (y .told) (y .words) ≡ leavingWords (loadCall (y .mem) (y .as-ram) (y .mirroring))) q t
+
+-- A load that is not refused says `Nothing`.
+load-says : (x : Loading) → numberIn (loadCall (x .mem) (x .as-ram) (x .mirroring) .answer) ≡ 0 → IsAccepted x
+unfolding loadCall
+load-says x =
+    let P : Outcome → Type 0 = λ (o : Outcome). numberIn (o .answer) ≡ 0 → o .answer ≡ Nothing in
+    pick-keeps P (not (prgTaken (length (x .mem .prg)))) (λ e. absurd (omega (arith, e)))
+    (pick-keeps P (not (chrTaken (length (x .mem .chr)))) (λ e. absurd (omega (arith, e)))
+    (pick-keeps P (not (ramTaken (length (x .mem .ram)) (length (x .mem .ciram)) (length (x .mem .exram)))) (λ e. absurd (omega (arith, e))) (λ e. refl)))
+
+load-accepted : (x : Loading) → Loads x → (Refusing (hear (x .told)) → ⊥) → IsAccepted x
+load-accepted x p t =
+    let o = loadCall (x .mem) (x .as-ram) (x .mirroring) in
+    let e : x .told ≡ toldWith (o .answer) (o .state .irq) = ap (λ (z : LeftWords). z .number) (load-left x p) in
+    load-says x (answer-with (o .answer) (o .state .irq) .0 (subst (λ (n : ℕ). Refusing (hear n) → ⊥) e t))
+
+-- What an accepted load tells.
+load-tells : (l : Load) → toldWith (loadCall (l .mem) (l .as-ram) (l .mirroring) .answer) (first l .state .irq) ≡ toldPlain Nothing
+load-tells l = rw (l .accepted, ap (λ (w : Watched). w .detector) (load-watched l))
+
+-- What is held -----------------------------------------------------------------------------------------------------------------------------
+
+pub board-back : (b : Board) → boardOf (heldOf b) ≡ b
+board-back b = ap (λ (s : State). record { state = s; mem = b .mem }) (words-forth (b .state))
+
+pub record Stands (x : Loading) (cs : List Made) (h : Held) : Type 0 where
+  pub accepted : IsAccepted x
+  pub told : x .told ≡ toldPlain Nothing
+  pub board : Board
+  pub reached : Reached (loadOf x accepted) cs board
+  pub holds : h ≡ heldOf board
+
+-- A call over what is held.
+made : {h : Held} (b : Board) (c : Made) (n : Hearing) (h' : Held) → h ≡ heldOf b → Calls c h n h' → Gives n h' (hears b c) (heldOf (leaves b c))
+made b c n h' e p = step b c n h' (subst (λ (g : Held). Calls c g n h') e p)
+
+stays : {x : Loading} {cs : List Made} {h : Held} → Stands x cs h → (c : Made) (n : Hearing) (h' : Held) → Calls c h n h' → Refusing n → h' ≡ h
+stays i c n h' p t =
+    let g = made (i .board) c n h' (i .holds) p in
+    g .1 ∙ ap heldOf (refusals .gives-back (i .board) c (λ z. just (i .board) c .1 z (subst Refusing (g .0) t))) ∙ sym (i .holds)
+
+pub stands : {x : Loading} {cs : List Made} {h : Held} → Hosted x cs h → Stands x cs h
+stands {x} (loaded p t) =
+    let q = load-accepted x p t in
+    let e = load-left x p in
+    record {
+      accepted = q;
+      told = ap (λ (z : LeftWords). z .number) e ∙ load-tells (loadOf x q);
+      board = first (loadOf x q);
+      reached = at-load;
+      holds = ap (λ (z : LeftWords). held (z .words) (x .mem)) e;
+    }
+stands (taken c n h' d p t) =
+    let i = stands d in
+    let g = made (i .board) c n h' (i .holds) p in
+    record {
+      accepted = i .accepted;
+      told = i .told;
+      board = leaves (i .board) c;
+      reached = going-on c (i .reached) (record { accepted = just (i .board) c .0 (subst (λ (m : Hearing). Refusing m → ⊥) (g .0) t); left = refl });
+      holds = g .1;
+    }
+stands (refused c n h' d p t) = let i = stands d in record { accepted = i .accepted; told = i .told; board = i .board; reached = i .reached; holds = stays i c n h' p t ∙ i .holds }
+
+-- What is held stands for what was reached.
+stands-for : {x : Loading} {cs : List Made} {h : Held} (i : Stands x cs h) → boardOf h ≡ i .board
+stands-for i = ap boardOf (i .holds) ∙ board-back (i .board)
+
+history : (x : Loading) (cs : List Made) (h : Held) → Hosted x cs h → IsHistory x cs h
+history x cs h d =
+    let i = stands d in
+    record {
+      accepted = i .accepted;
+      reached = subst (Reached (loadOf x (i .accepted)) cs) (sym (stands-for i)) (i .reached);
+      words = ap (λ (g : Held). g .words) (i .holds) ∙ ap (λ (b : Board). wordsOf (b .state)) (sym (stands-for i));
+    }
+
+next : (x : Loading) (cs : List Made) (h : Held) → Hosted x cs h → (c : Made) (n : Hearing) (h' : Held) → Calls c h n h' → Gives n h' (hears (boardOf h) c) (heldOf (leaves (boardOf h) c))
+next x cs h d c n h' p =
+    let i = stands d in
+    made (boardOf h) c n h' (i .holds ∙ ap heldOf (sym (stands-for i))) p
+
+-- Every history is one of a host's.
+hosted : (l : Load) {cs : List Made} {b : Board} → Reached l cs b → Hosted (loadingOf l) cs (heldOf b)
+hosted l at-load =
+    loaded (subst (λ (n : ℕ). Loads (loading (l .mem) (l .as-ram) (l .mirroring) n (wordsOf (first l .state)))) (load-tells l) (lends-load (l .mem) (l .as-ram) (l .mirroring)))
+    (answer-plain Nothing .1 refl)
+hosted l (going-on {s = b} {s' = b'} c r t) =
+    let p = subst (λ (z : Board). Calls c (heldOf b) (hears b c) (heldOf z)) (sym (t .left)) (lends b c) in
+    taken c (hears b c) (heldOf b') (hosted l r) p (just b c .1 (t .accepted))
+
+pub host-is-history : HostIsHistory
+host-is-history = record {
+  history = history;
+  load-told = λ x cs h d. stands d .told;
+  told = λ x cs h d c n h' p. next x cs h d c n h' p .0;
+  left = λ x cs h d c n h' p. next x cs h d c n h' p .1;
+  refused = λ x cs h d c n h' p t. stays (stands d) c n h' p t;
+  every = λ l cs b r. hosted l r;
+}
