@@ -5,3 +5,4 @@ pub mod Steps
 pub mod Lending
 pub mod Refusing
 pub mod Along
+pub mod Exported
