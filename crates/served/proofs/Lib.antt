@@ -6,3 +6,5 @@ pub mod Lending
 pub mod Refusing
 pub mod Along
 pub mod Exported
+pub mod Lines
+pub mod Interrupting

@@ -50,7 +50,7 @@ few Kind = omega arith
 few Number = omega arith
 few Length = omega arith
 
-abbrev asNumber : Hearing → ℕ
+abbrev pub asNumber : Hearing → ℕ
 asNumber (hear n) = n
 asNumber (bytes l) = 0
 
