@@ -1,6 +1,6 @@
 -- A host's calls are a history: by induction over them, what it holds is the words and the memory of a board that was reached.
 use Prim.Native.Nat.{ℕ}
-use mathlib.Core.List.{List, [], _∷_}
+use mathlib.Core.List.{List, [], _∷_, _++_, map}
 use mathlib.Core.Path.{_≡_, refl, sym, _∙_, ap, subst}
 use native.Mathlib.Omega.{arith}
 use lib.ListN.{length}
@@ -14,6 +14,7 @@ use Rattle.state.specs.declared.State.{State}
 use Rattle.state.specs.Lengths.{prgTaken, chrTaken, ramTaken}
 use Rattle.board.specs.declared.Outcome.{Outcome}
 use Rattle.board.specs.Loads.{loadCall}
+use Rattle.trace.specs.declared.Call.{Call}
 use Rattle.words.specs.Words.{Words, wordsOf}
 use Rattle.words.proofs.RoundLaws.{words-forth}
 use Rattle.told.specs.Told.{toldPlain, toldWith}
@@ -22,15 +23,18 @@ use Rattle.lines.specs.Machine.{Watched}
 use Rattle.lines.specs.Promise.Played.{at-load, taken as going-on}
 use Rattle.histories.specs.Boards.{Board, Made, leaves, number, numberIn}
 use Rattle.histories.specs.Histories.{Load, first, Reached}
+use Rattle.histories.specs.Boards.Made.{call}
+use Rattle.histories.specs.Replays.{boardIn, replayOf}
 use Rattle.histories.proofs.Along.{load-watched}
 use Rattle.histories.proofs.GivenBack.{refusals}
 use Rattle.served.specs.Held.{Held, held, boardOf, heldOf, Hearing}
 use Rattle.served.specs.Held.Hearing.{number as hear}
 use Rattle.served.specs.Calls.{Loading, loading, Loads, Calls}
 use Rattle.served.specs.Served.{hears, Refusing, Hosted, IsAccepted, loadOf, loadingOf, IsHistory, HostIsHistory}
-use Rattle.served.specs.Served.Hosted.{loaded, taken, refused}
+use Rattle.served.specs.Served.Hosted.{loaded, taken, refused, replayed}
 use Rattle.served.proofs.Lending.{lends, lends-load}
 use Rattle.served.proofs.Refusing.{answer-with, answer-plain, just}
+use Rattle.served.proofs.Replaying.{replay-step, replay-reaches}
 use Rattle.served.proofs.Steps.{Gives, step}
 
 -- The load ------------------------------------------------------------------------------------------------------------------------------
@@ -101,6 +105,17 @@ stands (taken c n h' d p t) =
       holds = g .1;
     }
 stands (refused c n h' d p t) = let i = stands d in record { accepted = i .accepted; told = i .told; board = i .board; reached = i .reached; holds = stays i c n h' p t ∙ i .holds }
+stands {x} (replayed {cs = cs} y d p) =
+    let i = stands d in
+    let z = replay-step (i .board) y (i .holds) p in
+    let l = loadOf x (i .accepted) in
+    record {
+      accepted = i .accepted;
+      told = i .told;
+      board = boardIn (replayOf (i .board) (y .trace) (y .log));
+      reached = subst (λ (k : List Call). Reached l (map call k ++ cs) (boardIn (replayOf (i .board) (y .trace) (y .log)))) (sym (z .calls)) (replay-reaches l cs (i .board) (y .trace) (y .log) (i .reached));
+      holds = z .left;
+    }
 
 -- What is held stands for what was reached.
 stands-for : {x : Loading} {cs : List Made} {h : Held} (i : Stands x cs h) → boardOf h ≡ i .board
@@ -136,5 +151,6 @@ host-is-history = record {
   told = λ x cs h d c n h' p. next x cs h d c n h' p .0;
   left = λ x cs h d c n h' p. next x cs h d c n h' p .1;
   refused = λ x cs h d c n h' p t. stays (stands d) c n h' p t;
+  replayed = λ x cs y d p. let i = stands d in replay-step (boardOf (y .before)) y (i .holds ∙ ap heldOf (sym (stands-for i))) p;
   every = λ l cs b r. hosted l r;
 }

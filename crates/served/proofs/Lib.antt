@@ -4,6 +4,7 @@ pub mod Roms
 pub mod Steps
 pub mod Lending
 pub mod Refusing
+pub mod Replaying
 pub mod Along
 pub mod Exported
 pub mod Lines

@@ -4,18 +4,23 @@ use mathlib.Core.List.{List}
 use mathlib.Core.Path.{_≡_, refl}
 use Prim.Native.Nat.{ℕ}
 use lib.Dec.{leb}
+use lib.ListN.{length}
 use Rattle.memory.specs.Bytes.{Mem}
 use Rattle.memory.specs.Words.{asBit}
+use Rattle.memory.proofs.Tests.{split}
 use Rattle.registers.specs.declared.Mirroring.{Mirroring}
 use Rattle.registers.specs.declared.Mirroring.the-variants.{Horizontal, Vertical, SingleScreenA, SingleScreenB, FourScreen}
 use Rattle.state.specs.declared.State.{State}
 use Rattle.board.specs.declared.Outcome.{Outcome}
 use Rattle.board.specs.Outcomes.{After}
+use Rattle.trace.specs.Records.{tooLong}
+use Rattle.player.specs.Replay.{replayed}
 use Rattle.words.specs.Words.{Words, good, numberOfMirroring, stateOf, wordsOf}
 use Rattle.words.proofs.RoundLaws.{words-forth}
 use Rattle.host.specs.Hosted.{leavingWords, onWords, leavingMemory, onMemory}
 use Rattle.host_looks.specs.Looks.{lookOn}
 use Rattle.host_looks.specs.Pages.{Copied, copied, copyOn}
+use Rattle.host_replay.specs.Replays.{leavingReplay, replayOn}
 
 flag : (b : Bool) → leb (asBit b) 1 ≡ true
 flag true = refl
@@ -64,3 +69,7 @@ look-on s told f = rw (words-good s, words-forth s)
 pub copy-on : (s : State) (f : State → List ℕ) (out : List ℕ) → copyOn (wordsOf s) f out ≡ copied true (f s) out
 unfolding copyOn
 copy-on s f out = rw (words-good s, words-forth s)
+
+pub replay-on : (s : State) (trace : List ℕ) (m : Mem) (log : List ℕ) → replayOn (wordsOf s) trace m log ≡ leavingReplay (replayed s trace m log)
+unfolding replayOn replayed
+replay-on s trace m log = split (tooLong (length trace)) (λ t. rw t) (λ t. rw (t, words-good s, words-forth s))

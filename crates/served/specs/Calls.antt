@@ -1,9 +1,9 @@
--- What a host's calls may do, by the contracts of the library's own functions: the eight of crate `host`, and of crate `host_looks` the peeks, the
--- mirroring, the interrupt and the page views. Memory that a function is not lent, or is lent to read, stays as it was.
+-- What a host's calls may do, by the contracts of the libraries' own functions: the eight of crate `host`, of crate `host_looks` the peeks, the
+-- mirroring, the interrupt and the page views, and the replay of crate `host_replay`. Memory that a function is not lent, or is lent to read, stays as it was.
 -- Assumes nothing.
 use Prim.Native.Nat.{ℕ}
 use mathlib.Core.Bool.{Bool, not}
-use mathlib.Core.List.{[], _∷_}
+use mathlib.Core.List.{List, [], _∷_}
 use mathlib.Core.Path.{_≡_}
 use denote.Ref.{now}
 use lib.Dec.{eqb}
@@ -29,6 +29,7 @@ use Rattle.host_looks.proofs.peeks.mmc5_ppu_peek.Reads as ppu-peeked
 use Rattle.host_looks.proofs.peeks.mmc5_sprite_peek.Reads as sprite-peeked
 use Rattle.host_looks.proofs.whole.mmc5_interrupt.Reads as interrupt-told
 use Rattle.host_looks.proofs.whole.mmc5_mirroring.Reads as mirroring-told
+use Rattle.host_replay.proofs.mmc5_replay.Reads as replay
 use Rattle.settles.specs.Settled.{memLeft}
 use Rattle.settles.specs.Hosts.{wordsLeft, behindWords}
 use Rattle.served.specs.Held.{Held, held, Hearing, Exchange, exchange, looking, Allowed, lentIn, behindLent}
@@ -79,3 +80,21 @@ Calls (cpu-page p) h n h' =
 Calls (ppu-page p) h n h' =
     Allowed (λ κ a r e. ppu-paged.Learnt κ a r e × (length (now (behindLent a .1 .0)) ≡ 1024)) (λ κ a r e. looking (behindLent a .0 ∷ []) (lentIn a) (bytes (take r (now (behindLent e .1 .0)))))
     (exchange (p .0 ∷ []) h n h')
+
+-- A replay as a host sees it: the trace and the log that it lends beside what it holds, the number that it is told, what it holds then, and the log.
+pub record Replaying : Type 0 where
+  pub trace : List ℕ
+  pub log : List ℕ
+  pub before : Held
+  pub told : ℕ
+  pub after : Held
+  pub log-after : List ℕ
+
+abbrev pub replaying : List ℕ → List ℕ → Held → ℕ → Held → List ℕ → Replaying
+replaying t l h n h' l' = record { trace = t; log = l; before = h; told = n; after = h'; log-after = l' }
+
+-- The contract of `mmc5_replay` allows it.
+unfoldable pub Runs : Replaying → Type 0
+Runs y =
+    Allowed replay.Learnt (λ κ a r e.
+    replaying (now (behindLent a .0)) (now (behindLent a .1 .0)) (lentIn a) r (held (wordsLeft e) (memLeft (now (behindWords a .0)) (behindWords e .1))) (now (behindLent e .1 .0))) y

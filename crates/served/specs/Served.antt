@@ -2,21 +2,29 @@
 -- memory .."; 01, "What each contract settles": "each takes the state and the memories as the call before it left them." What a call does is what
 -- its function's contract allows (specs/Calls.antt), so that this speaks of what a server runs.
 -- Assumes nothing.
-use mathlib.Core.List.{List, [], _∷_}
+use Prim.Native.Nat.{ℕ, _+_, _%_}
+use mathlib.Core.List.{List, [], _∷_, _++_, map}
 use mathlib.Core.Path.{_≡_}
+use lib.Dec.{ltb}
+use lib.ListN.{length}
+use Rattle.memory.specs.Words.{pick}
 use Rattle.answers.specs.declared.Answer.the-variants.{Nothing, Refused}
 use Rattle.answers.specs.declared.Refusal.{Refusal}
 use Rattle.scanline.specs.declared.Detector.{Detector}
 use Rattle.board.specs.Loads.{loadCall}
+use Rattle.trace.specs.declared.Call.{Call}
+use Rattle.player.specs.Replay.{Left}
 use Rattle.words.specs.Words.{wordsOf}
 use Rattle.told.specs.Told.{toldPlain, toldWith, mirroringTold, interruptTold}
+use Rattle.host_replay.specs.Replays.{endingTold}
 use Rattle.histories.specs.Boards.{Board, Made, Said, says, leaves}
 use Rattle.histories.specs.Boards.Made.{call, peek, ppu-peek, sprite-peek, mirroring-asked, interrupt-asked, cpu-page, ppu-page}
 use Rattle.histories.specs.Boards.Said.{answers, mirrors, interrupts, shows}
 use Rattle.histories.specs.Histories.{Load, first, Reached, view}
+use Rattle.histories.specs.Replays.{recordsTo, playedCalls, boardIn, replayOf}
 use Rattle.served.specs.Held.{Held, held, boardOf, heldOf, Hearing}
 use Rattle.served.specs.Held.Hearing.{number, bytes}
-use Rattle.served.specs.Calls.{Loading, loading, Loads, Calls}
+use Rattle.served.specs.Calls.{Loading, loading, Loads, Calls, Replaying, Runs}
 
 -- What is told of what a call says; of the seven calls with the interrupt after it.
 unfoldable pub plainly : Said → Hearing
@@ -45,12 +53,20 @@ hears b (ppu-page a) = plainly (says b (ppu-page a))
 abbrev pub Refusing : Hearing → Type 0
 Refusing n = (r : Refusal) × (n ≡ number (toldPlain (Refused r)))
 
+-- The records that the number of a replay says were played: all of the trace, or those before the place in it, the newest first.
+abbrev pub placeTold : List ℕ → ℕ → ℕ
+placeTold trace n = pick (ltb n 65536) (length trace) (n % 65536)
+
+abbrev pub callsTold : List ℕ → ℕ → List Call
+callsTold trace n = recordsTo (length trace + 1) trace (placeTold trace n) 0 []
+
 -- A host loaded a cartridge and was told no refusal; each of its calls then took what the one before it had left. The calls cs, the newest first,
 -- were those that told none, and it holds h.
 pub data Hosted (x : Loading) : List Made → Held → Type 0 where
   loaded : Loads x → (Refusing (number (x .told)) → ⊥) → Hosted x [] (held (x .words) (x .mem))
   taken : {cs : List Made} {h : Held} (c : Made) (n : Hearing) (h' : Held) → Hosted x cs h → Calls c h n h' → (Refusing n → ⊥) → Hosted x (c ∷ cs) h'
   refused : {cs : List Made} {h : Held} (c : Made) (n : Hearing) (h' : Held) → Hosted x cs h → Calls c h n h' → Refusing n → Hosted x cs h'
+  replayed : {cs : List Made} (y : Replaying) → Hosted x cs (y .before) → Runs y → Hosted x (map call (callsTold (y .trace) (y .told)) ++ cs) (y .after)
 
 -- The load of such calls, where it is accepted.
 abbrev pub IsAccepted : Loading → Type 0
@@ -71,6 +87,14 @@ pub record IsHistory (x : Loading) (cs : List Made) (h : Held) : Type 0 where
   -- the words are the words of its state
   pub words : h .words ≡ wordsOf (boardOf h .state)
 
+-- What a host sees of a replay is what the replay z leaves.
+pub record Replayed (y : Replaying) (z : Left) : Type 0 where
+  pub told : y .told ≡ endingTold (z .out .ending)
+  pub left : y .after ≡ heldOf (boardIn z)
+  pub log : y .log-after ≡ z .log
+  -- the number tells which records were played
+  pub calls : callsTold (y .trace) (y .told) ≡ playedCalls (y .trace) (z .out .ending)
+
 pub record HostIsHistory : Type 0 where
   pub history : (x : Loading) (cs : List Made) (h : Held) → Hosted x cs h → IsHistory x cs h
   -- the load tells `-` and no interrupt
@@ -80,5 +104,7 @@ pub record HostIsHistory : Type 0 where
   pub left : (x : Loading) (cs : List Made) (h : Held) → Hosted x cs h → (c : Made) (n : Hearing) (h' : Held) → Calls c h n h' → h' ≡ heldOf (leaves (boardOf h) c)
   -- 00, demand 1: "A refusal .. returns the state as handed in and writes no byte"
   pub refused : (x : Loading) (cs : List Made) (h : Held) → Hosted x cs h → (c : Made) (n : Hearing) (h' : Held) → Calls c h n h' → Refusing n → h' ≡ h
+  -- a replay tells how it ends, and leaves what it leaves, by the definitions (crate `histories`, specs/Replays.antt, says what that is)
+  pub replayed : (x : Loading) (cs : List Made) (y : Replaying) → Hosted x cs (y .before) → Runs y → Replayed y (replayOf (boardOf (y .before)) (y .trace) (y .log))
   -- and nothing is lost: every history of the board is one of a host
   pub every : (l : Load) (cs : List Made) (b : Board) → Reached l cs b → Hosted (loadingOf l) cs (heldOf b)
