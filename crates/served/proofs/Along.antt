@@ -3,38 +3,43 @@ use Prim.Native.Nat.{ℕ}
 use mathlib.Core.List.{List, [], _∷_, _++_, map}
 use mathlib.Core.Path.{_≡_, refl, sym, _∙_, ap, subst}
 use native.Mathlib.Omega.{arith}
-use lib.ListN.{length}
-use mathlib.Core.Bool.{not}
+use lib.ListN.{length, getD}
+use mathlib.Core.Bool.{true, not}
+use Rattle.memory.specs.declared.Page.{Page}
+use Rattle.memory.specs.Words.{pageOf}
 use Rattle.memory.proofs.Tests.{pick-keeps}
-use Rattle.answers.specs.declared.Answer.{Answer}
 use Rattle.answers.specs.declared.Answer.the-variants.{Nothing}
-use Rattle.scanline.specs.declared.Detector.{Detector}
-use Rattle.scanline.specs.Steps.{detectorAtLoad}
 use Rattle.state.specs.declared.State.{State}
 use Rattle.state.specs.Lengths.{prgTaken, chrTaken, ramTaken}
+use Rattle.state.specs.Ranges.{inRange}
+use Rattle.cpu.specs.Writes.{prgWordAt}
 use Rattle.board.specs.declared.Outcome.{Outcome}
 use Rattle.board.specs.Loads.{loadCall}
+use Rattle.board_ppu.specs.Peeks.{chrWordAt}
+use Rattle.promises.proofs.Gates.{in-range-of}
 use Rattle.trace.specs.declared.Call.{Call}
 use Rattle.words.specs.Words.{Words, wordsOf}
 use Rattle.words.proofs.RoundLaws.{words-forth}
 use Rattle.told.specs.Told.{toldPlain, toldWith}
 use Rattle.host.specs.Hosted.{LeftWords, leftWords, leavingWords}
+use Rattle.host_looks.specs.Pages.{entryNumber, entryOn}
 use Rattle.lines.specs.Machine.{Watched}
 use Rattle.lines.specs.Promise.Played.{at-load, taken as going-on}
 use Rattle.histories.specs.Boards.{Board, Made, leaves, number, numberIn}
 use Rattle.histories.specs.Histories.{Load, first, Reached}
 use Rattle.histories.specs.Boards.Made.{call}
 use Rattle.histories.specs.Replays.{boardIn, replayOf}
-use Rattle.histories.proofs.Along.{load-watched}
+use Rattle.histories.proofs.Along.{open-along, load-watched}
 use Rattle.histories.proofs.GivenBack.{refusals}
-use Rattle.served.specs.Held.{Held, held, boardOf, heldOf, Hearing}
+use Rattle.served.specs.Held.{Held, held, boardOf, heldOf, Hearing, Exchange, looking}
 use Rattle.served.specs.Held.Hearing.{number as hear}
-use Rattle.served.specs.Calls.{Loading, loading, Loads, Calls}
+use Rattle.served.specs.Calls.{Loading, loading, Loads, Calls, TellsCpuEntry, TellsPpuEntry}
 use Rattle.served.specs.Served.{hears, Refusing, Hosted, IsAccepted, loadOf, loadingOf, IsHistory, HostIsHistory}
 use Rattle.served.specs.Served.Hosted.{loaded, taken, refused, replayed}
 use Rattle.served.proofs.Lending.{lends, lends-load}
-use Rattle.served.proofs.Refusing.{answer-with, answer-plain, just}
+use Rattle.served.proofs.Refusing.{asNumber, answer-with, answer-plain, just}
 use Rattle.served.proofs.Replaying.{replay-step, replay-reaches}
+use Rattle.served.proofs.Stands.{entry-on}
 use Rattle.served.proofs.Steps.{Gives, step}
 
 -- The load ------------------------------------------------------------------------------------------------------------------------------
@@ -135,6 +140,28 @@ next x cs h d c n h' p =
     let i = stands d in
     made (boardOf h) c n h' (i .holds ∙ ap heldOf (sym (stands-for i))) p
 
+-- The page tables' entries.
+entry-told : {w : Words} (b : Board) (f : List ℕ → State → Page) {l : List ℕ} {r : ℕ} (k : List ℕ) {h : Held} (n : ℕ) → inRange (b .state) ≡ true → h ≡ heldOf b → r ≡ entryOn w (f l)
+    → looking l (held w (h .mem)) (hear r) ≡ looking k h (hear n) → n ≡ entryNumber (f k (b .state))
+entry-told b f k {h} n g e t q =
+    let p = subst (λ (x : Exchange). asNumber (x .told) ≡ entryOn (x .before .words) (f (x .own))) q t in
+    p ∙ ap (λ (z : Held). entryOn (z .words) (f k)) e ∙ entry-on (b .state) (f k) g
+
+ranged : {x : Loading} {cs : List Made} {h : Held} (i : Stands x cs h) → inRange (boardOf h .state) ≡ true
+ranged {x} i = ap (λ (b : Board). inRange (b .state)) (stands-for i) ∙ in-range-of (i .board .state) (i .board .mem) (open-along (loadOf x (i .accepted)) (i .reached))
+
+cpu-entry : (x : Loading) (cs : List Made) (h : Held) → Hosted x cs h → (p n : ℕ) → TellsCpuEntry h p n → n ≡ entryNumber (pageOf (prgWordAt (boardOf h .state .«prg_pages») p))
+unfolding TellsCpuEntry
+cpu-entry x cs h d p n (κ, a, r, e, t, q) =
+    let i = stands d in
+    entry-told (boardOf h) (λ (l : List ℕ) (s : State). pageOf (prgWordAt (s .«prg_pages») (getD l 0 0))) (p ∷ []) n (ranged i) (i .holds ∙ ap heldOf (sym (stands-for i))) t q
+
+ppu-entry : (x : Loading) (cs : List Made) (h : Held) → Hosted x cs h → (p n : ℕ) → TellsPpuEntry h p n → n ≡ entryNumber (pageOf (chrWordAt (boardOf h .state .«chr_pages») p))
+unfolding TellsPpuEntry
+ppu-entry x cs h d p n (κ, a, r, e, t, q) =
+    let i = stands d in
+    entry-told (boardOf h) (λ (l : List ℕ) (s : State). pageOf (chrWordAt (s .«chr_pages») (getD l 0 0))) (p ∷ []) n (ranged i) (i .holds ∙ ap heldOf (sym (stands-for i))) t q
+
 -- Every history is one of a host's.
 hosted : (l : Load) {cs : List Made} {b : Board} → Reached l cs b → Hosted (loadingOf l) cs (heldOf b)
 hosted l at-load =
@@ -151,6 +178,8 @@ host-is-history = record {
   told = λ x cs h d c n h' p. next x cs h d c n h' p .0;
   left = λ x cs h d c n h' p. next x cs h d c n h' p .1;
   refused = λ x cs h d c n h' p t. stays (stands d) c n h' p t;
+  cpu-entry = cpu-entry;
+  ppu-entry = ppu-entry;
   replayed = λ x cs y d p. let i = stands d in replay-step (boardOf (y .before)) y (i .holds ∙ ap heldOf (sym (stands-for i))) p;
   every = λ l cs b r. hosted l r;
 }

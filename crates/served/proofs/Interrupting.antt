@@ -1,21 +1,20 @@
 -- The interrupt that a host is told: the number of a call that is taken, by `up-along`; and that its other part stays below bit 15.
-use Prim.Native.Nat.{ℕ, _+_, _*_, _/_, _%_, _<_, _≤_}
+use Prim.Native.Nat.{ℕ, _+_, _/_, _%_, _<_}
 use mathlib.Core.Bool.{Bool, true, false, false≢true}
-use mathlib.Core.List.{List, [], _∷_}
+use mathlib.Core.List.{List, _∷_}
 use mathlib.Core.Logic.{_↔_}
 use mathlib.Core.Path.{_≡_, refl, sym, _∙_, ap, subst}
 use native.Mathlib.Omega.{arith}
 use Rattle.memory.specs.Words.{pick}
 use Rattle.answers.specs.declared.Answer.{Answer}
 use Rattle.answers.specs.declared.Answer.the-variants.{Nothing, Register, Served, Page, Blank, Refused}
-use Rattle.answers.specs.Letters.{letterOf, valueOf}
+use Rattle.answers.specs.Letters.{letterOf}
 use Rattle.scanline.specs.declared.Detector.{Detector}
 use Rattle.scanline.specs.Steps.{interruptUp}
 use Rattle.board.specs.declared.Interrupt.{Interrupt}
 use Rattle.board.specs.declared.Interrupt.the-variants.{Up as IsUp, Down, Refused as InterruptRefused}
 use Rattle.board.specs.Whole.{interruptCall}
 use Rattle.trace.specs.declared.Call.{Call}
-use Rattle.trace.specs.Promise.{InRange}
 use Rattle.lines.specs.Told.{Up}
 use Rattle.lines.specs.Promise.{historyOf}
 use Rattle.lines.specs.Promise.Played.{at-load, taken}
@@ -23,13 +22,13 @@ use Rattle.transcript.proofs.Small.{SmallMem, SmallState}
 use Rattle.transcript.proofs.SmallKept.{called-small}
 use Rattle.transcript.proofs.SmallLoad.{load-small}
 use Rattle.told.specs.Told.{toldPlain, toldWith, interruptTold}
-use Rattle.histories.specs.Boards.{Board, Made, says, leaves, number, numberIn}
+use Rattle.histories.specs.Boards.{Board, Made, says, leaves, numberIn}
 use Rattle.histories.specs.Boards.Made.{call, peek, ppu-peek, sprite-peek, mirroring-asked, interrupt-asked, cpu-page, ppu-page}
 use Rattle.histories.specs.Histories.{Load, Reached, view, event}
 use Rattle.histories.specs.Replays.{answerAt}
 use Rattle.histories.proofs.Behind.{numbered}
 use Rattle.histories.proofs.Demands.{board-demand-3, asked}
-use Rattle.served.specs.Held.{Held, boardOf, Hearing}
+use Rattle.served.specs.Held.{Held, boardOf}
 use Rattle.served.specs.Held.Hearing.{number as hear}
 use Rattle.served.specs.Calls.{Loading, Calls}
 use Rattle.served.specs.Served.{plainly, withInterrupt, hears, loadOf, Refusing, Hosted}

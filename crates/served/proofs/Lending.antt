@@ -10,12 +10,9 @@ use lib.Dec.{eqb}
 use lib.ListN.{length, replicate, length-replicate}
 use Rattle.memory.specs.Bytes.{Mem}
 use Rattle.memory.specs.Words.{asBit}
-use Rattle.answers.specs.declared.Answer.{Answer}
-use Rattle.answers.specs.declared.Answer.the-variants.{Nothing}
 use Rattle.registers.specs.declared.Mirroring.{Mirroring}
 use Rattle.registers.specs.declared.Mirroring.the-variants.{Horizontal, Vertical, SingleScreenA, SingleScreenB, FourScreen}
 use Rattle.state.specs.declared.State.{State}
-use Rattle.board.specs.declared.Outcome.{Outcome}
 use Rattle.board.specs.CpuSide.{cpuRead, cpuPeek, cpuWrite}
 use Rattle.board.specs.Loads.{loadCall}
 use Rattle.board.specs.Whole.{resetCall, clockCall, ppuRegisterCall, mirroringCall, interruptCall}
@@ -26,12 +23,12 @@ use Rattle.trace.specs.declared.Call.the-variants.{Clock, CpuRead, CpuWrite, Pp
 use Rattle.told.specs.Told.{toldPlain, toldWith, mirroringTold, interruptTold}
 use Rattle.words.specs.Words.{Words, mirroringNumbered, numberOfMirroring, wordsOf}
 use Rattle.host.specs.Hosted.{leftMemory}
-use Rattle.host_looks.specs.Pages.{Copied, copied}
+use Rattle.host_looks.specs.Pages.{copied}
 use Rattle.histories.specs.Boards.{Board, Made, says, leaves}
 use Rattle.histories.specs.Boards.Made.{call, peek, ppu-peek, sprite-peek, mirroring-asked, interrupt-asked, cpu-page, ppu-page}
-use Rattle.served.specs.Held.{Held, held, heldOf, Hearing, exchange, looking, WordsThen, Lent}
-use Rattle.served.specs.Held.Hearing.{number, bytes}
-use Rattle.served.specs.Calls.{Loading, loading, Loads, Calls}
+use Rattle.served.specs.Held.{Held, held, heldOf, exchange, looking, WordsThen, Lent}
+use Rattle.served.specs.Held.Hearing.{bytes}
+use Rattle.served.specs.Calls.{loading, Loads, Calls}
 use Rattle.served.specs.Served.{plainly, withInterrupt, hears}
 use Rattle.served.proofs.Pages.{copied-whole, cpu-page-whole, ppu-page-whole}
 use Rattle.served.proofs.Roms.{write-rom, store-rom}

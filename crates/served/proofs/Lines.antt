@@ -3,7 +3,7 @@ use Prim.Native.Nat.{ℕ, zero, suc, _+_, _≤_}
 use mathlib.Core.Bool.{Bool, true, false, false≢true}
 use mathlib.Core.List.{List, [], _∷_, _++_, map}
 use mathlib.Core.Logic.{_↔_}
-use mathlib.Core.Path.{_≡_, refl, sym, _∙_, ap}
+use mathlib.Core.Path.{_≡_, refl, _∙_, ap}
 use native.Mathlib.Numerals.{add-one}
 use native.Mathlib.Omega.{arith}
 use denote.Ref.{now}
@@ -22,19 +22,18 @@ use Rattle.text.specs.Digits.{before, digits}
 use Rattle.text.specs.Lines.{acceptedLine}
 use Rattle.text.specs.Sheet.{Sheet, sheet, textWritten}
 use Rattle.text.proofs.SheetLaws.{fits}
-use Rattle.lines.specs.Told.{up, Up}
+use Rattle.lines.specs.Told.{up}
 use Rattle.lines.specs.Promise.{historyOf}
 use Rattle.lines.specs.Promise.Played.{at-load, taken}
 use Rattle.lines.proofs.Worked.{tests-are-sentences}
 use Rattle.player.specs.Replay.{found, answered}
 use Rattle.logs.specs.Logs.{logLetter}
-use Rattle.transcript.specs.Cartridge.{transcript}
 use Rattle.transcript.specs.Told.{toldFrom}
 use Rattle.transcript.proofs.Transcribed.{transcript-is-told}
 use Rattle.histories.specs.Boards.{Board, Made, says, leaves, number, numberIn}
 use Rattle.histories.specs.Boards.Made.{call}
 use Rattle.histories.specs.Histories.{Load, first, Reached, view, event}
-use Rattle.histories.specs.Replays.{answerAt, letterAt}
+use Rattle.histories.specs.Replays.{answerAt}
 use Rattle.histories.proofs.Demands.{board-demand-3}
 use Rattle.served.specs.Printed.{linesAfter, inserted, TranscriptIsHistory}
 

@@ -2,7 +2,7 @@
 use Prim.Native.Nat.{ℕ, _+_, _*_, _≤_}
 use mathlib.Core.Bool.{Bool, true, false, false≢true}
 use mathlib.Core.List.{List}
-use mathlib.Core.Path.{_≡_, refl, sym, _∙_, ap}
+use mathlib.Core.Path.{_≡_, refl, ap}
 use native.Mathlib.Omega.{arith}
 use Rattle.memory.specs.Words.{pick}
 use Rattle.answers.specs.declared.Answer.{Answer}
@@ -24,9 +24,9 @@ use Rattle.board_ppu.specs.Peeks.{ppuPeek, spritePeek}
 use Rattle.calls.specs.Called.{called}
 use Rattle.words.specs.Words.{numberOfMirroring}
 use Rattle.told.specs.Told.{toldPlain, toldWith, mirroringTold, interruptTold}
-use Rattle.histories.specs.Boards.{Board, Made, Said, says, leaves, number, numberIn}
+use Rattle.histories.specs.Boards.{Board, Made, says, leaves, number, numberIn}
 use Rattle.histories.specs.Boards.Made.{call, peek, ppu-peek, sprite-peek, mirroring-asked, interrupt-asked, cpu-page, ppu-page}
-use Rattle.histories.specs.Boards.Said.{answers, mirrors, interrupts, shows}
+use Rattle.histories.specs.Boards.Said.{mirrors, interrupts}
 use Rattle.histories.specs.Histories.{view}
 use Rattle.histories.proofs.Behind.{numbered}
 use Rattle.served.specs.Held.{Hearing}

@@ -1,22 +1,18 @@
 -- A replay over the words of a state is the replay of its board, and its number tells which records were played.
-use Prim.Native.Nat.{ℕ, zero, suc, _+_, _%_, _<_}
-use mathlib.Core.Bool.{false}
-use mathlib.Core.List.{List, [], _∷_, _++_, map}
+use Prim.Native.Nat.{ℕ, zero, suc, _+_}
+use mathlib.Core.List.{List, [], _++_, map}
 use mathlib.Core.Path.{_≡_, refl, sym, _∙_, ap, subst}
 use native.Mathlib.Omega.{arith}
-use borrow.Author.Tests.{lt-ltb, le-ltb, ltb-true, ltb-false}
+use borrow.Author.Tests.{lt-ltb, ltb-true, ltb-false}
 use lib.Dec.{ltb}
 use lib.ListN.{length}
-use Rattle.memory.specs.Words.{pick}
 use Rattle.memory.proofs.Tests.{split}
-use Rattle.answers.specs.declared.Refusal.{Refusal}
-use Rattle.answers.specs.Numbers.{numberOf}
 use Rattle.trace.specs.declared.Call.{Call}
 use Rattle.player.specs.declared.Ending.{Ending}
 use Rattle.player.specs.declared.Ending.the-variants.{Done, Stopped}
-use Rattle.player.specs.Replay.{Left, ended}
+use Rattle.player.specs.Replay.{Left}
 use Rattle.host_replay.specs.Promise.{TakenApart}
-use Rattle.host_replay.specs.Replays.{LeftReplay, leftReplay, leavingReplay, endingTold, replayOn}
+use Rattle.host_replay.specs.Replays.{LeftReplay, leftReplay, endingTold, replayOn}
 use Rattle.host_replay.proofs.ReplayLaws.{promised}
 use Rattle.histories.specs.Boards.{Board, Made}
 use Rattle.histories.specs.Boards.Made.{call}
@@ -25,7 +21,7 @@ use Rattle.histories.specs.Replays.{recordsTo, endOf, playedCalls, boardIn, rep
 use Rattle.histories.proofs.Behind.{numbered}
 use Rattle.histories.proofs.Replayed.{from-history, too-long}
 use Rattle.served.specs.Held.{Held, held, heldOf}
-use Rattle.served.specs.Calls.{Replaying, replaying, Runs}
+use Rattle.served.specs.Calls.{Replaying, Runs}
 use Rattle.served.specs.Served.{placeTold, callsTold, Replayed}
 use Rattle.served.proofs.Stands.{replay-on}
 

@@ -5,21 +5,24 @@ use mathlib.Core.Path.{_≡_, refl}
 use Prim.Native.Nat.{ℕ}
 use lib.Dec.{leb}
 use lib.ListN.{length}
+use Rattle.memory.specs.declared.Page.{Page}
 use Rattle.memory.specs.Bytes.{Mem}
 use Rattle.memory.specs.Words.{asBit}
 use Rattle.memory.proofs.Tests.{split}
 use Rattle.registers.specs.declared.Mirroring.{Mirroring}
 use Rattle.registers.specs.declared.Mirroring.the-variants.{Horizontal, Vertical, SingleScreenA, SingleScreenB, FourScreen}
 use Rattle.state.specs.declared.State.{State}
+use Rattle.state.specs.Ranges.{inRange}
 use Rattle.board.specs.declared.Outcome.{Outcome}
 use Rattle.board.specs.Outcomes.{After}
 use Rattle.trace.specs.Records.{tooLong}
 use Rattle.player.specs.Replay.{replayed}
-use Rattle.words.specs.Words.{Words, good, numberOfMirroring, stateOf, wordsOf}
+use Rattle.words.specs.Gate.{wordsInRange}
+use Rattle.words.specs.Words.{good, numberOfMirroring, wordsOf}
 use Rattle.words.proofs.RoundLaws.{words-forth}
 use Rattle.host.specs.Hosted.{leavingWords, onWords, leavingMemory, onMemory}
 use Rattle.host_looks.specs.Looks.{lookOn}
-use Rattle.host_looks.specs.Pages.{Copied, copied, copyOn}
+use Rattle.host_looks.specs.Pages.{entryNumber, entryOn, copied, copyOn}
 use Rattle.host_replay.specs.Replays.{leavingReplay, replayOn}
 
 flag : (b : Bool) → leb (asBit b) 1 ≡ true
@@ -69,6 +72,10 @@ look-on s told f = rw (words-good s, words-forth s)
 pub copy-on : (s : State) (f : State → List ℕ) (out : List ℕ) → copyOn (wordsOf s) f out ≡ copied true (f s) out
 unfolding copyOn
 copy-on s f out = rw (words-good s, words-forth s)
+
+pub entry-on : (s : State) (f : State → Page) → inRange s ≡ true → entryOn (wordsOf s) f ≡ entryNumber (f s)
+unfolding entryOn wordsInRange
+entry-on s f r = rw (words-good s, words-forth s, r)
 
 pub replay-on : (s : State) (trace : List ℕ) (m : Mem) (log : List ℕ) → replayOn (wordsOf s) trace m log ≡ leavingReplay (replayed s trace m log)
 unfolding replayOn replayed

@@ -1,8 +1,7 @@
 -- A call over the words of a state: what its contract allows is what `hears` and `leaves` say.
 use Prim.Native.Nat.{ℕ}
-use mathlib.Core.Bool.{true}
-use mathlib.Core.List.{List, [], _∷_}
-use mathlib.Core.Path.{_≡_, refl, sym, _∙_, ap, subst}
+use mathlib.Core.List.{List}
+use mathlib.Core.Path.{_≡_, refl, _∙_, ap, subst}
 use lib.ListN.{getD, length, take}
 use Rattle.memory.specs.Bytes.{Mem}
 use Rattle.state.specs.declared.State.{State}
@@ -14,11 +13,11 @@ use Rattle.board_ppu.specs.Fetch.{ppuFetch}
 use Rattle.board_ppu.specs.Peeks.{ppuWrite, ppuPeek, spritePeek}
 use Rattle.views.specs.Views.{cpuView, ppuView}
 use Rattle.trace.specs.declared.Call.the-variants.{Clock, CpuRead, CpuWrite, PpuRegister, PpuFetch, Reset, PpuWrite}
-use Rattle.told.specs.Told.{toldPlain, toldWith, mirroringTold, interruptTold}
-use Rattle.words.specs.Words.{Words, stateOf, wordsOf}
+use Rattle.told.specs.Told.{toldPlain, mirroringTold, interruptTold}
+use Rattle.words.specs.Words.{Words}
 use Rattle.host.specs.Hosted.{LeftWords, leftWords, leavingWords, onWords, LeftMemory, leftMemory, leavingMemory, onMemory}
 use Rattle.host_looks.specs.Looks.{lookOn}
-use Rattle.host_looks.specs.Pages.{Copied, copiedOf, copied, copyOn}
+use Rattle.host_looks.specs.Pages.{Copied, copiedOf, copyOn}
 use Rattle.histories.specs.Boards.{Board, Made, says, leaves}
 use Rattle.histories.specs.Boards.Made.{call, peek, ppu-peek, sprite-peek, mirroring-asked, interrupt-asked, cpu-page, ppu-page}
 use Rattle.served.specs.Held.{Held, held, heldOf, Hearing, Exchange, exchange, looking}

@@ -1,5 +1,5 @@
 -- What a host's calls may do, by the contracts of the libraries' own functions: the eight of crate `host`, of crate `host_looks` the peeks, the
--- mirroring, the interrupt and the page views, and the replay of crate `host_replay`. Memory that a function is not lent, or is lent to read, stays as it was.
+-- mirroring, the interrupt, the page views and the page tables' entries, and the replay of crate `host_replay`. Memory that a function is not lent, or is lent to read, stays as it was.
 -- Assumes nothing.
 use Prim.Native.Nat.{ℕ}
 use mathlib.Core.Bool.{Bool, not}
@@ -22,7 +22,9 @@ use Rattle.host.proofs.ppu_side.mmc5_ppu_write.Reads as ppu-write
 use Rattle.host.proofs.reads.mmc5_cpu_read.Reads as cpu-read
 use Rattle.host.proofs.whole.mmc5_ppu_register.Reads as ppu-register
 use Rattle.host.proofs.whole.mmc5_reset.Reads as reset
+use Rattle.host_looks.proofs.pages.mmc5_cpu_entry.Reads as cpu-entry
 use Rattle.host_looks.proofs.pages.mmc5_cpu_page.Reads as cpu-paged
+use Rattle.host_looks.proofs.pages.mmc5_ppu_entry.Reads as ppu-entry
 use Rattle.host_looks.proofs.pages.mmc5_ppu_page.Reads as ppu-paged
 use Rattle.host_looks.proofs.peeks.mmc5_cpu_peek.Reads as cpu-peeked
 use Rattle.host_looks.proofs.peeks.mmc5_ppu_peek.Reads as ppu-peeked
@@ -32,7 +34,7 @@ use Rattle.host_looks.proofs.whole.mmc5_mirroring.Reads as mirroring-told
 use Rattle.host_replay.proofs.mmc5_replay.Reads as replay
 use Rattle.settles.specs.Settled.{memLeft}
 use Rattle.settles.specs.Hosts.{wordsLeft, behindWords}
-use Rattle.served.specs.Held.{Held, held, Hearing, Exchange, exchange, looking, Allowed, lentIn, behindLent}
+use Rattle.served.specs.Held.{Held, held, Hearing, exchange, looking, Allowed, lentIn, behindLent}
 use Rattle.served.specs.Held.Hearing.{number, bytes}
 
 -- A load as a host sees it: the buffers, whether CHR is writable, the header's mirroring, the number that it is told, and the words that it holds then.
@@ -80,6 +82,13 @@ Calls (cpu-page p) h n h' =
 Calls (ppu-page p) h n h' =
     Allowed (λ κ a r e. ppu-paged.Learnt κ a r e × (length (now (behindLent a .1 .0)) ≡ 1024)) (λ κ a r e. looking (behindLent a .0 ∷ []) (lentIn a) (bytes (take r (now (behindLent e .1 .0)))))
     (exchange (p .0 ∷ []) h n h')
+
+-- What `mmc5_cpu_entry` and `mmc5_ppu_entry` tell of the page tables, by their contracts: at an address, a number.
+unfoldable pub TellsCpuEntry : Held → ℕ → ℕ → Type 0
+TellsCpuEntry h p n = Allowed cpu-entry.Learnt (λ κ a r e. looking (behindWords a .0 ∷ []) (held (wordsLeft a) (h .mem)) (number r)) (looking (p ∷ []) h (number n))
+
+unfoldable pub TellsPpuEntry : Held → ℕ → ℕ → Type 0
+TellsPpuEntry h p n = Allowed ppu-entry.Learnt (λ κ a r e. looking (behindWords a .0 ∷ []) (held (wordsLeft a) (h .mem)) (number r)) (looking (p ∷ []) h (number n))
 
 -- A replay as a host sees it: the trace and the log that it lends beside what it holds, the number that it is told, what it holds then, and the log.
 pub record Replaying : Type 0 where

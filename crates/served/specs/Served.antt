@@ -7,15 +7,18 @@ use mathlib.Core.List.{List, [], _∷_, _++_, map}
 use mathlib.Core.Path.{_≡_}
 use lib.Dec.{ltb}
 use lib.ListN.{length}
-use Rattle.memory.specs.Words.{pick}
+use Rattle.memory.specs.Words.{pick, pageOf}
 use Rattle.answers.specs.declared.Answer.the-variants.{Nothing, Refused}
 use Rattle.answers.specs.declared.Refusal.{Refusal}
 use Rattle.scanline.specs.declared.Detector.{Detector}
+use Rattle.cpu.specs.Writes.{prgWordAt}
 use Rattle.board.specs.Loads.{loadCall}
+use Rattle.board_ppu.specs.Peeks.{chrWordAt}
 use Rattle.trace.specs.declared.Call.{Call}
 use Rattle.player.specs.Replay.{Left}
 use Rattle.words.specs.Words.{wordsOf}
 use Rattle.told.specs.Told.{toldPlain, toldWith, mirroringTold, interruptTold}
+use Rattle.host_looks.specs.Pages.{entryNumber}
 use Rattle.host_replay.specs.Replays.{endingTold}
 use Rattle.histories.specs.Boards.{Board, Made, Said, says, leaves}
 use Rattle.histories.specs.Boards.Made.{call, peek, ppu-peek, sprite-peek, mirroring-asked, interrupt-asked, cpu-page, ppu-page}
@@ -24,7 +27,7 @@ use Rattle.histories.specs.Histories.{Load, first, Reached, view}
 use Rattle.histories.specs.Replays.{recordsTo, playedCalls, boardIn, replayOf}
 use Rattle.served.specs.Held.{Held, held, boardOf, heldOf, Hearing}
 use Rattle.served.specs.Held.Hearing.{number, bytes}
-use Rattle.served.specs.Calls.{Loading, loading, Loads, Calls, Replaying, Runs}
+use Rattle.served.specs.Calls.{Loading, loading, Loads, Calls, TellsCpuEntry, TellsPpuEntry, Replaying, Runs}
 
 -- What is told of what a call says; of the seven calls with the interrupt after it.
 unfoldable pub plainly : Said → Hearing
@@ -102,6 +105,9 @@ pub record HostIsHistory : Type 0 where
   -- the next call, refused or not, tells what `says` says, and leaves what `leaves` says: "answers, page tables and memory"
   pub told : (x : Loading) (cs : List Made) (h : Held) → Hosted x cs h → (c : Made) (n : Hearing) (h' : Held) → Calls c h n h' → n ≡ hears (boardOf h) c
   pub left : (x : Loading) (cs : List Made) (h : Held) → Hosted x cs h → (c : Made) (n : Hearing) (h' : Held) → Calls c h n h' → h' ≡ heldOf (leaves (boardOf h) c)
+  -- "page tables": the entries that it is told are those of the tables
+  pub cpu-entry : (x : Loading) (cs : List Made) (h : Held) → Hosted x cs h → (p n : ℕ) → TellsCpuEntry h p n → n ≡ entryNumber (pageOf (prgWordAt (boardOf h .state .«prg_pages») p))
+  pub ppu-entry : (x : Loading) (cs : List Made) (h : Held) → Hosted x cs h → (p n : ℕ) → TellsPpuEntry h p n → n ≡ entryNumber (pageOf (chrWordAt (boardOf h .state .«chr_pages») p))
   -- 00, demand 1: "A refusal .. returns the state as handed in and writes no byte"
   pub refused : (x : Loading) (cs : List Made) (h : Held) → Hosted x cs h → (c : Made) (n : Hearing) (h' : Held) → Calls c h n h' → Refusing n → h' ≡ h
   -- a replay tells how it ends, and leaves what it leaves, by the definitions (crate `histories`, specs/Replays.antt, says what that is)
