@@ -29,7 +29,7 @@ use Rattle.histories.specs.Boards.{Board, Made, leaves, number, numberIn}
 use Rattle.histories.specs.Histories.{Load, first, Reached}
 use Rattle.histories.specs.Boards.Made.{call}
 use Rattle.histories.specs.Replays.{boardIn, replayOf}
-use Rattle.histories.proofs.Along.{open-along, load-watched}
+use Rattle.histories.proofs.Along.{Opened, open-along, load-watched}
 use Rattle.histories.proofs.GivenBack.{refusals}
 use Rattle.served.specs.Held.{Held, held, boardOf, heldOf, Hearing, Exchange, looking}
 use Rattle.served.specs.Held.Hearing.{number as hear}
@@ -80,12 +80,15 @@ pub record Stands (x : Loading) (cs : List Made) (h : Held) : Type 0 where
   pub holds : h ≡ heldOf board
 
 -- A call over what is held.
-made : {h : Held} (b : Board) (c : Made) (n : Hearing) (h' : Held) → h ≡ heldOf b → Calls c h n h' → Gives n h' (hears b c) (heldOf (leaves b c))
-made b c n h' e p = step b c n h' (subst (λ (g : Held). Calls c g n h') e p)
+made : {h : Held} (b : Board) → Opened b → (c : Made) (n : Hearing) (h' : Held) → h ≡ heldOf b → Calls c h n h' → Gives n h' (hears b c) (heldOf (leaves b c))
+made b o c n h' e p = step b o c n h' (subst (λ (g : Held). Calls c g n h') e p)
+
+open-at : {x : Loading} {cs : List Made} {h : Held} (i : Stands x cs h) → Opened (i .board)
+open-at {x} i = open-along (loadOf x (i .accepted)) (i .reached)
 
 stays : {x : Loading} {cs : List Made} {h : Held} → Stands x cs h → (c : Made) (n : Hearing) (h' : Held) → Calls c h n h' → Refusing n → h' ≡ h
 stays i c n h' p t =
-    let g = made (i .board) c n h' (i .holds) p in
+    let g = made (i .board) (open-at i) c n h' (i .holds) p in
     g .1 ∙ ap heldOf (refusals .gives-back (i .board) c (λ z. just (i .board) c .1 z (subst Refusing (g .0) t))) ∙ sym (i .holds)
 
 pub stands : {x : Loading} {cs : List Made} {h : Held} → Hosted x cs h → Stands x cs h
@@ -101,7 +104,7 @@ stands {x} (loaded p t) =
     }
 stands (taken c n h' d p t) =
     let i = stands d in
-    let g = made (i .board) c n h' (i .holds) p in
+    let g = made (i .board) (open-at i) c n h' (i .holds) p in
     record {
       accepted = i .accepted;
       told = i .told;
@@ -138,7 +141,7 @@ history x cs h d =
 next : (x : Loading) (cs : List Made) (h : Held) → Hosted x cs h → (c : Made) (n : Hearing) (h' : Held) → Calls c h n h' → Gives n h' (hears (boardOf h) c) (heldOf (leaves (boardOf h) c))
 next x cs h d c n h' p =
     let i = stands d in
-    made (boardOf h) c n h' (i .holds ∙ ap heldOf (sym (stands-for i))) p
+    made (boardOf h) (subst Opened (sym (stands-for i)) (open-at i)) c n h' (i .holds ∙ ap heldOf (sym (stands-for i))) p
 
 -- The page tables' entries.
 entry-told : {w : Words} (b : Board) (f : List ℕ → State → Page) {l : List ℕ} {r : ℕ} (k : List ℕ) {h : Held} (n : ℕ) → inRange (b .state) ≡ true → h ≡ heldOf b → r ≡ entryOn w (f l)
@@ -148,7 +151,7 @@ entry-told b f k {h} n g e t q =
     p ∙ ap (λ (z : Held). entryOn (z .words) (f k)) e ∙ entry-on (b .state) (f k) g
 
 ranged : {x : Loading} {cs : List Made} {h : Held} (i : Stands x cs h) → inRange (boardOf h .state) ≡ true
-ranged {x} i = ap (λ (b : Board). inRange (b .state)) (stands-for i) ∙ in-range-of (i .board .state) (i .board .mem) (open-along (loadOf x (i .accepted)) (i .reached))
+ranged i = ap (λ (b : Board). inRange (b .state)) (stands-for i) ∙ in-range-of (i .board .state) (i .board .mem) (open-at i)
 
 cpu-entry : (x : Loading) (cs : List Made) (h : Held) → Hosted x cs h → (p n : ℕ) → TellsCpuEntry h p n → n ≡ entryNumber (pageOf (prgWordAt (boardOf h .state .«prg_pages») p))
 unfolding TellsCpuEntry
@@ -168,7 +171,7 @@ hosted l at-load =
     loaded (subst (λ (n : ℕ). Loads (loading (l .mem) (l .as-ram) (l .mirroring) n (wordsOf (first l .state)))) (load-tells l) (lends-load (l .mem) (l .as-ram) (l .mirroring)))
     (answer-plain Nothing .1 refl)
 hosted l (going-on {s = b} {s' = b'} c r t) =
-    let p = subst (λ (z : Board). Calls c (heldOf b) (hears b c) (heldOf z)) (sym (t .left)) (lends b c) in
+    let p = subst (λ (z : Board). Calls c (heldOf b) (hears b c) (heldOf z)) (sym (t .left)) (lends b (open-along l r) c) in
     taken c (hears b c) (heldOf b') (hosted l r) p (just b c .1 (t .accepted))
 
 pub host-is-history : HostIsHistory

@@ -7,8 +7,8 @@ use mathlib.Core.Path.{_≡_, refl, sym, _∙_, ap, subst}
 use native.Mathlib.Omega.{arith}
 use Rattle.memory.specs.Words.{pick}
 use Rattle.answers.specs.declared.Answer.{Answer}
-use Rattle.answers.specs.declared.Answer.the-variants.{Nothing, Register, Served, Page, Blank, Refused}
-use Rattle.answers.specs.Letters.{letterOf}
+use Rattle.answers.specs.Refused.{isRefused}
+use Rattle.answers.proofs.Cases.{letter-range}
 use Rattle.scanline.specs.declared.Detector.{Detector}
 use Rattle.scanline.specs.Steps.{interruptUp}
 use Rattle.board.specs.declared.Interrupt.{Interrupt}
@@ -26,7 +26,6 @@ use Rattle.histories.specs.Boards.{Board, Made, says, leaves, numberIn}
 use Rattle.histories.specs.Boards.Made.{call, peek, ppu-peek, sprite-peek, mirroring-asked, interrupt-asked, cpu-page, ppu-page}
 use Rattle.histories.specs.Histories.{Load, Reached, view, event}
 use Rattle.histories.specs.Replays.{answerAt}
-use Rattle.histories.proofs.Behind.{numbered}
 use Rattle.histories.proofs.Demands.{board-demand-3, asked}
 use Rattle.served.specs.Held.{Held, boardOf}
 use Rattle.served.specs.Held.Hearing.{number as hear}
@@ -35,24 +34,11 @@ use Rattle.served.specs.Served.{plainly, withInterrupt, hears, loadOf, R
 use Rattle.served.specs.Interrupts.{Tells, UpAfter, AllInRange, InterruptIsTold}
 use Rattle.served.proofs.Along.{host-is-history}
 use Rattle.served.proofs.Lines.{onward, says-none}
-use Rattle.served.proofs.Refusing.{asNumber, answer-with}
+use Rattle.served.proofs.Refusing.{asNumber, answer-with, not-refused}
 
 -- The number of a call that is taken.
-taken-with : (a : Answer) (d : Detector) → numberIn a ≡ 0 → toldWith a d ≡ pick (interruptUp d) (toldPlain a + 32768) (toldPlain a)
-taken-with Nothing d n = refl
-taken-with (Register v) d n = refl
-taken-with (Served v) d n = refl
-taken-with (Page v) d n = refl
-taken-with Blank d n = refl
-taken-with (Refused r) d n = numbered r n
-
-letter-small : (a : Answer) → letterOf a < 128
-letter-small Nothing = omega arith
-letter-small (Register v) = omega arith
-letter-small (Served v) = omega arith
-letter-small (Page v) = omega arith
-letter-small Blank = omega arith
-letter-small (Refused r) = omega arith
+taken-with : (a : Answer) (d : Detector) → isRefused a ≡ false → toldWith a d ≡ pick (interruptUp d) (toldPlain a + 32768) (toldPlain a)
+taken-with a d n = rw n
 
 bit-15 : (up : Bool) (p : ℕ) → p < 32768 → (pick up (p + 32768) p / 32768 % 2 ≡ 1) ↔ (up ≡ true)
 bit-15 true p h = (λ e. refl, λ e. omega (arith, h))
@@ -79,7 +65,7 @@ module _ (x : Loading) (cs : List Made) (h : Held) (c : Call) (n : ℕ) (t : Tel
   none-in = answer-with answer after .0 (subst (λ (m : ℕ). Refusing (hear m) → ⊥) tells-it (t .taken))
 
   is-picked : n ≡ pick (interruptUp after) (toldPlain answer + 32768) (toldPlain answer)
-  is-picked = tells-it ∙ taken-with answer after none-in
+  is-picked = tells-it ∙ taken-with answer after (not-refused answer none-in)
 
   up-after : (interruptUp after ≡ true) ↔ UpAfter cs c
   unfolding answer after
@@ -118,7 +104,7 @@ plain-small x cs h c d m g =
     let i = host-is-history .history x cs h d in
     let s = small-along (loadOf x (i .accepted)) m (i .reached) (g .1) in
     let k = called-small c (boardOf h .state) (boardOf h .mem) (g .0) (s .state) (s .mem) in
-    omega (arith, letter-small (answerAt (boardOf h) c), k .answer)
+    omega (arith, letter-range (answerAt (boardOf h) c) .0, k .answer)
 
 -- The interrupt asked for ------------------------------------------------------------------------------------------------------------------
 

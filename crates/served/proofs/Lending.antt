@@ -3,7 +3,7 @@
 use Prim.Native.Nat.{ℕ, zero, suc}
 use mathlib.Core.Bool.{Bool, true, false, not}
 use mathlib.Core.List.{List, [], _∷_}
-use mathlib.Core.Path.{_≡_, refl, sym, _∙_, ap}
+use mathlib.Core.Path.{_≡_, refl, sym, _∙_, ap, subst}
 use contract.Lifetimes.{Lfts}
 use denote.Ref.{RefT}
 use lib.Dec.{eqb}
@@ -12,7 +12,11 @@ use Rattle.memory.specs.Bytes.{Mem}
 use Rattle.memory.specs.Words.{asBit}
 use Rattle.registers.specs.declared.Mirroring.{Mirroring}
 use Rattle.registers.specs.declared.Mirroring.the-variants.{Horizontal, Vertical, SingleScreenA, SingleScreenB, FourScreen}
+use Rattle.state.specs.declared.gate.Gate.the-variants.{Open}
 use Rattle.state.specs.declared.State.{State}
+use Rattle.state.specs.Gate.{gateMem}
+use Rattle.board.specs.declared.Outcome.{Outcome}
+use Rattle.board.specs.Outcomes.{After}
 use Rattle.board.specs.CpuSide.{cpuRead, cpuPeek, cpuWrite}
 use Rattle.board.specs.Loads.{loadCall}
 use Rattle.board.specs.Whole.{resetCall, clockCall, ppuRegisterCall, mirroringCall, interruptCall}
@@ -20,6 +24,7 @@ use Rattle.board_ppu.specs.Fetch.{ppuFetch}
 use Rattle.board_ppu.specs.Peeks.{ppuWrite, ppuPeek, spritePeek}
 use Rattle.views.specs.Views.{cpuView, ppuView}
 use Rattle.trace.specs.declared.Call.the-variants.{Clock, CpuRead, CpuWrite, PpuRegister, PpuFetch, Reset, PpuWrite}
+use Rattle.calls.specs.Called.{overLent}
 use Rattle.told.specs.Told.{toldPlain, toldWith, mirroringTold, interruptTold}
 use Rattle.words.specs.Words.{Words, mirroringNumbered, numberOfMirroring, wordsOf}
 use Rattle.host.specs.Hosted.{leftMemory}
@@ -27,12 +32,13 @@ use Rattle.host_looks.specs.Pages.{copied}
 use Rattle.histories.specs.Boards.{Board, Made, says, leaves}
 use Rattle.histories.specs.Boards.Made.{call, peek, ppu-peek, sprite-peek, mirroring-asked, interrupt-asked, cpu-page, ppu-page}
 use Rattle.served.specs.Held.{Held, held, heldOf, exchange, looking, WordsThen, Lent}
-use Rattle.served.specs.Held.Hearing.{bytes}
+use Rattle.served.specs.Held.Hearing.{number, bytes}
 use Rattle.served.specs.Calls.{loading, Loads, Calls}
 use Rattle.served.specs.Served.{plainly, withInterrupt, hears}
 use Rattle.served.proofs.Pages.{copied-whole, cpu-page-whole, ppu-page-whole}
 use Rattle.served.proofs.Roms.{write-rom, store-rom}
 use Rattle.served.proofs.Stands.{on-words, on-memory, look-on, copy-on}
+use Rattle.served.proofs.Steps.{over-lent}
 
 -- Something lent, for some lifetimes.
 abbrev lend : {X : Type 0} → X → RefT X
@@ -56,23 +62,35 @@ room-for : length room ≡ 1024
 unfolding room
 room-for = length-replicate {A = ℕ} 1024 0
 
-pub lends : (b : Board) (c : Made) → Calls c (heldOf b) (hears b c) (heldOf (leaves b c))
+-- A call on the state alone is the board's where the buffers are as recorded.
+alone : (c : Made) (b : Board) (o : Outcome) → gateMem (b .state) (b .mem) ≡ Open → Calls c (heldOf b) (number (toldWith (o .answer) (o .state .irq))) (held (wordsOf (o .state)) (b .mem))
+    → let x = overLent (b .state) (b .mem) o in Calls c (heldOf b) (number (toldWith (x .out .answer) (x .out .state .irq))) (held (wordsOf (x .out .state)) (x .mem))
+alone c b o g p =
+    subst (λ (x : After). Calls c (heldOf b) (number (toldWith (x .out .answer) (x .out .state .irq))) (held (wordsOf (x .out .state)) (x .mem))) (over-lent (b .state) (b .mem) o g) p
+
+-- Behind an open gate.
+pub lends : (b : Board) → gateMem (b .state) (b .mem) ≡ Open → (c : Made) → Calls c (heldOf b) (hears b c) (heldOf (leaves b c))
 unfolding Calls hears withInterrupt plainly says leaves
-lends b (call Clock) = (lifetimes 7, lendWords (wordsOf (b .state)) tt, _, lendWords (wordsOf (clockCall (b .state) .state)) tt, sym (on-words (b .state) clockCall), refl)
-lends b (call Reset) = (lifetimes 7, lendWords (wordsOf (b .state)) tt, _, lendWords (wordsOf (resetCall (b .state) .state)) tt, sym (on-words (b .state) resetCall), refl)
-lends b (call (PpuRegister a v)) = (
-  lifetimes 7,
-  lendWords (wordsOf (b .state)) (a .0, (v, tt)),
-  _,
-  lendWords (wordsOf (ppuRegisterCall (b .state) (a .0) v .state)) (a .0, (v, tt)),
-  sym (on-words (b .state) (λ (s : State). ppuRegisterCall s (a .0) v)),
-  refl,
-)
-lends b (call (CpuRead a)) =
+lends b g (call Clock) =
+    alone (call Clock) b (clockCall (b .state)) g
+    (lifetimes 7, lendWords (wordsOf (b .state)) tt, _, lendWords (wordsOf (clockCall (b .state) .state)) tt, sym (on-words (b .state) clockCall), refl)
+lends b g (call Reset) =
+    alone (call Reset) b (resetCall (b .state)) g
+    (lifetimes 7, lendWords (wordsOf (b .state)) tt, _, lendWords (wordsOf (resetCall (b .state) .state)) tt, sym (on-words (b .state) resetCall), refl)
+lends b g (call (PpuRegister a v)) =
+    alone (call (PpuRegister a v)) b (ppuRegisterCall (b .state) (a .0) v) g (
+      lifetimes 7,
+      lendWords (wordsOf (b .state)) (a .0, (v, tt)),
+      _,
+      lendWords (wordsOf (ppuRegisterCall (b .state) (a .0) v .state)) (a .0, (v, tt)),
+      sym (on-words (b .state) (λ (s : State). ppuRegisterCall s (a .0) v)),
+      refl,
+    )
+lends b g (call (CpuRead a)) =
     (lifetimes 12, lendAll (heldOf b) (a .0, tt), _, lendAll (heldOf (leaves b (call (CpuRead a)))) (a .0, tt), sym (on-words (b .state) (λ (s : State). cpuRead s (b .mem) (a .0))), refl)
-lends b (call (PpuFetch a)) =
+lends b g (call (PpuFetch a)) =
     (lifetimes 12, lendAll (heldOf b) (a .0, tt), _, lendAll (heldOf (leaves b (call (PpuFetch a)))) (a .0, tt), sym (on-words (b .state) (λ (s : State). ppuFetch s (b .mem) (a .0))), refl)
-lends b (call (CpuWrite a v)) = (
+lends b g (call (CpuWrite a v)) = (
   lifetimes 12,
   lendAll (heldOf b) (a .0, (v, tt)),
   _,
@@ -80,7 +98,7 @@ lends b (call (CpuWrite a v)) = (
   ap (leftMemory _ _) (write-rom (b .state) (b .mem) (a .0) v) ∙ sym (on-memory (b .state) (b .mem) (λ (s : State). cpuWrite s (b .mem) (a .0) v)),
   ap (λ (m : Mem). exchange (a .0 ∷ v ∷ []) (heldOf b) (hears b (call (CpuWrite a v))) (held (wordsOf (leaves b (call (CpuWrite a v)) .state)) m)) (write-rom (b .state) (b .mem) (a .0) v),
 )
-lends b (call (PpuWrite a v)) = (
+lends b g (call (PpuWrite a v)) = (
   lifetimes 12,
   lendAll (heldOf b) (a .0, (v, tt)),
   _,
@@ -88,12 +106,12 @@ lends b (call (PpuWrite a v)) = (
   ap (leftMemory _ _) (store-rom (b .state) (b .mem) (a .0) v) ∙ sym (on-memory (b .state) (b .mem) (λ (s : State). ppuWrite s (b .mem) (a .0) v)),
   ap (λ (m : Mem). exchange (a .0 ∷ v ∷ []) (heldOf b) (hears b (call (PpuWrite a v))) (held (wordsOf (leaves b (call (PpuWrite a v)) .state)) m)) (store-rom (b .state) (b .mem) (a .0) v),
 )
-lends b (peek a) = (lifetimes 12, lendAll (heldOf b) (a .0, tt), _, lendAll (heldOf b) (a .0, tt), sym (look-on (b .state) toldPlain (λ (s : State). cpuPeek s (b .mem) (a .0))), refl)
-lends b (ppu-peek a) = (lifetimes 12, lendAll (heldOf b) (a .0, tt), _, lendAll (heldOf b) (a .0, tt), sym (look-on (b .state) toldPlain (λ (s : State). ppuPeek s (b .mem) (a .0))), refl)
-lends b (sprite-peek a) = (lifetimes 12, lendAll (heldOf b) (a .0, tt), _, lendAll (heldOf b) (a .0, tt), sym (look-on (b .state) toldPlain (λ (s : State). spritePeek s (b .mem) (a .0))), refl)
-lends b mirroring-asked = (lifetimes 7, lendWords (wordsOf (b .state)) tt, _, lendWords (wordsOf (b .state)) tt, sym (look-on (b .state) mirroringTold mirroringCall), refl)
-lends b interrupt-asked = (lifetimes 7, lendWords (wordsOf (b .state)) tt, _, lendWords (wordsOf (b .state)) tt, sym (look-on (b .state) interruptTold interruptCall), refl)
-lends b (cpu-page a) =
+lends b g (peek a) = (lifetimes 12, lendAll (heldOf b) (a .0, tt), _, lendAll (heldOf b) (a .0, tt), sym (look-on (b .state) toldPlain (λ (s : State). cpuPeek s (b .mem) (a .0))), refl)
+lends b g (ppu-peek a) = (lifetimes 12, lendAll (heldOf b) (a .0, tt), _, lendAll (heldOf b) (a .0, tt), sym (look-on (b .state) toldPlain (λ (s : State). ppuPeek s (b .mem) (a .0))), refl)
+lends b g (sprite-peek a) = (lifetimes 12, lendAll (heldOf b) (a .0, tt), _, lendAll (heldOf b) (a .0, tt), sym (look-on (b .state) toldPlain (λ (s : State). spritePeek s (b .mem) (a .0))), refl)
+lends b g mirroring-asked = (lifetimes 7, lendWords (wordsOf (b .state)) tt, _, lendWords (wordsOf (b .state)) tt, sym (look-on (b .state) mirroringTold mirroringCall), refl)
+lends b g interrupt-asked = (lifetimes 7, lendWords (wordsOf (b .state)) tt, _, lendWords (wordsOf (b .state)) tt, sym (look-on (b .state) interruptTold interruptCall), refl)
+lends b g (cpu-page a) =
     let c = copied true (cpuView (b .state) (b .mem) (a .0)) room in (
       lifetimes 12,
       lendAll (heldOf b) (a .0, (lend room, tt)),
@@ -102,7 +120,7 @@ lends b (cpu-page a) =
       (sym (copy-on (b .state) (λ (s : State). cpuView s (b .mem) (a .0)) room), room-for),
       ap (λ (l : List ℕ). looking (a .0 ∷ []) (heldOf b) (bytes l)) (copied-whole (cpu-page-whole (b .state) (b .mem) (a .0)) room room-for),
     )
-lends b (ppu-page a) =
+lends b g (ppu-page a) =
     let c = copied true (ppuView (b .state) (b .mem) (a .0)) room in (
       lifetimes 13,
       lendAll (heldOf b) (a .0, (lend room, tt)),

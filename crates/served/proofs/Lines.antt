@@ -3,7 +3,7 @@ use Prim.Native.Nat.{ℕ, zero, suc, _+_, _≤_}
 use mathlib.Core.Bool.{Bool, true, false, false≢true}
 use mathlib.Core.List.{List, [], _∷_, _++_, map}
 use mathlib.Core.Logic.{_↔_}
-use mathlib.Core.Path.{_≡_, refl, _∙_, ap}
+use mathlib.Core.Path.{_≡_, refl, sym, _∙_, ap}
 use native.Mathlib.Numerals.{add-one}
 use native.Mathlib.Omega.{arith}
 use denote.Ref.{now}
@@ -11,8 +11,9 @@ use lib.ListN.{length, drop, getD}
 use Rattle.memory.specs.Words.{asBit}
 use Rattle.memory.proofs.Tests.{same-test}
 use Rattle.answers.specs.declared.Answer.{Answer}
-use Rattle.answers.specs.declared.Answer.the-variants.{Nothing, Register, Served, Page, Blank, Refused}
 use Rattle.answers.specs.declared.Refusal.{Refusal}
+use Rattle.answers.specs.Refused.{isRefused, ifRefused}
+use Rattle.answers.proofs.Cases.{refused-or-not, accepted-goes-on}
 use Rattle.scanline.specs.Steps.{interruptUp}
 use Rattle.trace.specs.declared.Call.{Call}
 use Rattle.trace.specs.declared.Found.{Found}
@@ -26,7 +27,7 @@ use Rattle.lines.specs.Told.{up}
 use Rattle.lines.specs.Promise.{historyOf}
 use Rattle.lines.specs.Promise.Played.{at-load, taken}
 use Rattle.lines.proofs.Worked.{tests-are-sentences}
-use Rattle.player.specs.Replay.{found, answered}
+use Rattle.player.specs.Replay.{found}
 use Rattle.logs.specs.Logs.{logLetter}
 use Rattle.transcript.specs.Told.{toldFrom}
 use Rattle.transcript.proofs.Transcribed.{transcript-is-told}
@@ -34,6 +35,7 @@ use Rattle.histories.specs.Boards.{Board, Made, says, leaves, number, numberIn}
 use Rattle.histories.specs.Boards.Made.{call}
 use Rattle.histories.specs.Histories.{Load, first, Reached, view, event}
 use Rattle.histories.specs.Replays.{answerAt}
+use Rattle.histories.proofs.Behind.{given}
 use Rattle.histories.proofs.Demands.{board-demand-3}
 use Rattle.served.specs.Printed.{linesAfter, inserted, TranscriptIsHistory}
 
@@ -58,20 +60,15 @@ found-same End done stop f g h = refl
 found-same (Unreadable why) done stop f g h = refl
 found-same (Record c next) done stop f g h = h c next
 
-answered-same : (a : Answer) (stop : Refusal → List ℕ) (x y : List ℕ) → (numberIn a ≡ 0 → x ≡ y) → answered a stop x ≡ answered a stop y
-answered-same Nothing stop x y h = h refl
-answered-same (Register v) stop x y h = h refl
-answered-same (Served v) stop x y h = h refl
-answered-same (Page v) stop x y h = h refl
-answered-same Blank stop x y h = h refl
-answered-same (Refused why) stop x y h = refl
+answered-same : (a : Answer) (stop : Refusal → List ℕ) (x y : List ℕ) → (isRefused a ≡ false → x ≡ y) → ifRefused a stop x ≡ ifRefused a stop y
+answered-same a stop x y h = refused-or-not a (λ why e. rw e) (λ n. accepted-goes-on a stop x n ∙ h n ∙ sym (accepted-goes-on a stop y n))
 
 told-lines : (l : Load) (k : ℕ) (trace : List ℕ) (at : ℕ) (cs : List Call) (b : Board) → Reached l (map call cs) b → toldFrom k trace at (length cs) (b .state) (b .mem) ≡ linesAfter k trace at cs b
 unfolding toldFrom linesAfter leaves
 told-lines l zero trace at cs b r = refl
 told-lines l (suc k) trace at cs b r =
     found-same (recordAt trace at) _ _ _ _ (λ c next. answered-same (answerAt b c) _ _ _ (λ n.
-    let s = onward l (call c) r (says-none b c n) in
+    let s = onward l (call c) r (says-none b c (given (answerAt b c) n)) in
     let b' = leaves b (call c) in
     let same = ap (λ (d : Bool). acceptedLine (length cs) (kindOf c) (answerAt b c) d) (up-along l s) in
     let rest = ap (λ (i : ℕ). toldFrom k trace next i (b' .state) (b' .mem)) (add-one (length cs)) ∙ told-lines l k trace next (c ∷ cs) b' s in

@@ -1,15 +1,18 @@
 -- A number tells a refusal just where what is said is one.
-use Prim.Native.Nat.{ℕ, _+_, _*_, _≤_}
+use Prim.Native.Nat.{ℕ, _+_, _*_, _<_, _≤_}
 use mathlib.Core.Bool.{Bool, true, false, false≢true}
 use mathlib.Core.List.{List}
-use mathlib.Core.Path.{_≡_, refl, ap}
+use mathlib.Core.Path.{_≡_, refl, sym, _∙_, ap, subst}
 use native.Mathlib.Omega.{arith}
 use Rattle.memory.specs.Words.{pick}
 use Rattle.answers.specs.declared.Answer.{Answer}
-use Rattle.answers.specs.declared.Answer.the-variants.{Nothing, Register, Served, Page, Blank, Refused}
+use Rattle.answers.specs.declared.Answer.the-variants.{Refused}
 use Rattle.answers.specs.declared.Refusal.{Refusal}
-use Rattle.answers.specs.declared.Refusal.the-variants.{Prg, Chr, Ram, Buffers, State as StateBroken, Audio, Counter, Split, Kind, Number, Length}
+use Rattle.answers.specs.Letters.{letterOf, valueOf}
 use Rattle.answers.specs.Numbers.{numberOf}
+use Rattle.answers.specs.Refused.{isRefused}
+use Rattle.answers.proofs.Cases.{refused-or-not, letter-range}
+use Rattle.answers.proofs.NumberLaws.{numbered}
 use Rattle.registers.specs.declared.Mirroring.{Mirroring}
 use Rattle.registers.specs.declared.Mirroring.the-variants.{Horizontal, Vertical, SingleScreenA, SingleScreenB, FourScreen}
 use Rattle.scanline.specs.declared.Detector.{Detector}
@@ -28,7 +31,7 @@ use Rattle.histories.specs.Boards.{Board, Made, says, leaves, number, numberIn}
 use Rattle.histories.specs.Boards.Made.{call, peek, ppu-peek, sprite-peek, mirroring-asked, interrupt-asked, cpu-page, ppu-page}
 use Rattle.histories.specs.Boards.Said.{mirrors, interrupts}
 use Rattle.histories.specs.Histories.{view}
-use Rattle.histories.proofs.Behind.{numbered}
+use Rattle.histories.proofs.Behind.{no-zero, given}
 use Rattle.served.specs.Held.{Hearing}
 use Rattle.served.specs.Held.Hearing.{number as hear, bytes}
 use Rattle.served.specs.Served.{plainly, withInterrupt, hears, Refusing}
@@ -36,19 +39,6 @@ use Rattle.served.specs.Served.{plainly, withInterrupt, hears, Refusing}
 -- What is told where nothing is refused.
 abbrev Taken : Hearing → Type 0
 Taken n = Refusing n → ⊥
-
-few : (r : Refusal) → numberOf r ≤ 11
-few Prg = omega arith
-few Chr = omega arith
-few Ram = omega arith
-few Buffers = omega arith
-few StateBroken = omega arith
-few Audio = omega arith
-few Counter = omega arith
-few Split = omega arith
-few Kind = omega arith
-few Number = omega arith
-few Length = omega arith
 
 abbrev pub asNumber : Hearing → ℕ
 asNumber (hear n) = n
@@ -62,12 +52,12 @@ five SingleScreenB = omega arith
 five FourScreen = omega arith
 
 -- Another letter, with the interrupt or without; and a number without a letter.
-other-letter : (up : Bool) (l v : ℕ) → 34 ≤ l → Taken (hear (pick up (l * 256 + v + 32768) (l * 256 + v)))
-other-letter true l v h (r, e) = let q : l * 256 + v + 32768 ≡ 33 * 256 + numberOf r = ap asNumber e in omega (arith, h, q, few r)
-other-letter false l v h (r, e) = let q : l * 256 + v ≡ 33 * 256 + numberOf r = ap asNumber e in omega (arith, h, q, few r)
+other-letter : (up : Bool) (l v : ℕ) → 0x21 < l → Taken (hear (pick up (l * 256 + v + 32768) (l * 256 + v)))
+other-letter true l v h (r, e) = let q : l * 256 + v + 32768 ≡ 0x21 * 256 + numberOf r = ap asNumber e in omega (arith, h, q, numbered .most r)
+other-letter false l v h (r, e) = let q : l * 256 + v ≡ 0x21 * 256 + numberOf r = ap asNumber e in omega (arith, h, q, numbered .most r)
 
 no-letter : (n : ℕ) → n ≤ 255 → Taken (hear n)
-no-letter n h (r, e) = let q : n ≡ 33 * 256 + numberOf r = ap asNumber e in omega (arith, h, q)
+no-letter n h (r, e) = let q : n ≡ 0x21 * 256 + numberOf r = ap asNumber e in omega (arith, h, q)
 
 unfoldable isNumber : Hearing → Bool
 isNumber (hear n) = true
@@ -81,23 +71,23 @@ taken-just : (n : Hearing) → Taken n → Just 0 n
 taken-just n t = (λ u. refl, λ u. t)
 
 refused-just : (r : Refusal) → Just (numberOf r) (hear (toldPlain (Refused r)))
-refused-just r = (λ t. absurd (t (r, refl)), λ z. numbered r z)
+refused-just r = (λ t. absurd (t (r, refl)), λ z. no-zero r z)
+
+-- An answer, by what is told of those that are no refusal.
+answer-just : (f : Answer → ℕ) → ((r : Refusal) → f (Refused r) ≡ toldPlain (Refused r)) → ((a : Answer) → isRefused a ≡ false → Taken (hear (f a))) → (a : Answer) → Just (numberIn a) (hear (f a))
+answer-just f e t a =
+    refused-or-not a
+    (λ r q. subst (λ (x : Answer). Just (numberIn x) (hear (f x))) (sym q) (subst (λ (n : ℕ). Just (numberOf r) (hear n)) (sym (e r)) (refused-just r)))
+    (λ n. subst (λ (k : ℕ). Just k (hear (f a))) (sym (given a n)) (taken-just (hear (f a)) (t a n)))
 
 pub answer-with : (a : Answer) (d : Detector) → Just (numberIn a) (hear (toldWith a d))
-answer-with Nothing d = taken-just _ (other-letter (interruptUp d) 0x2D 0 (omega arith))
-answer-with (Register v) d = taken-just _ (other-letter (interruptUp d) 0x52 v (omega arith))
-answer-with (Served v) d = taken-just _ (other-letter (interruptUp d) 0x53 v (omega arith))
-answer-with (Page v) d = taken-just _ (other-letter (interruptUp d) 0x4D v (omega arith))
-answer-with Blank d = taken-just _ (other-letter (interruptUp d) 0x42 0 (omega arith))
-answer-with (Refused r) d = refused-just r
+answer-with a d = answer-just (λ (x : Answer). toldWith x d) (λ r. refl) (λ x n. rw n (other-letter (interruptUp d) (letterOf x) (valueOf x) (letter-range x .1 n))) a
 
 pub answer-plain : (a : Answer) → Just (numberIn a) (hear (toldPlain a))
-answer-plain Nothing = taken-just _ (other-letter false 0x2D 0 (omega arith))
-answer-plain (Register v) = taken-just _ (other-letter false 0x52 v (omega arith))
-answer-plain (Served v) = taken-just _ (other-letter false 0x53 v (omega arith))
-answer-plain (Page v) = taken-just _ (other-letter false 0x4D v (omega arith))
-answer-plain Blank = taken-just _ (other-letter false 0x42 0 (omega arith))
-answer-plain (Refused r) = refused-just r
+answer-plain a = answer-just toldPlain (λ r. refl) (λ x n. other-letter false (letterOf x) (valueOf x) (letter-range x .1 n)) a
+
+pub not-refused : (a : Answer) → numberIn a ≡ 0 → isRefused a ≡ false
+not-refused a n = refused-or-not a (λ r q. no-zero r (ap numberIn (sym q) ∙ n)) (λ f. f)
 
 mirroring-just : (t : Told) → Just (number (mirrors t)) (hear (mirroringTold t))
 unfolding number

@@ -18,7 +18,7 @@ use Rattle.histories.specs.Boards.{Board, Made}
 use Rattle.histories.specs.Boards.Made.{call}
 use Rattle.histories.specs.Histories.{Load, Reached}
 use Rattle.histories.specs.Replays.{recordsTo, endOf, playedCalls, boardIn, replayOf}
-use Rattle.histories.proofs.Behind.{numbered}
+use Rattle.histories.proofs.Behind.{no-zero}
 use Rattle.histories.proofs.Replayed.{from-history, too-long}
 use Rattle.served.specs.Held.{Held, held, heldOf}
 use Rattle.served.specs.Calls.{Replaying, Runs}
@@ -30,7 +30,7 @@ place-told : (trace : List ℕ) (e : Ending) → TakenApart e → placeTold trac
 place-told trace (Done count) a = rw (lt-ltb (endingTold (Done count)) 65536 (omega (arith, a .0)))
 place-told trace (Stopped place why) a =
     split (ltb (endingTold (Stopped place why)) 65536)
-    (λ t. numbered why (omega (arith, ltb-true (endingTold (Stopped place why)) 65536 t)))
+    (λ t. no-zero why (omega (arith, ltb-true (endingTold (Stopped place why)) 65536 t)))
     (λ f. rw f (a .1))
 
 pub calls-told : (b : Board) (trace log : List ℕ) → callsTold trace (endingTold (replayOf b trace log .out .ending)) ≡ playedCalls trace (replayOf b trace log .out .ending)

@@ -4,15 +4,18 @@ use mathlib.Core.List.{List}
 use mathlib.Core.Path.{_≡_, refl, _∙_, ap, subst}
 use lib.ListN.{getD, length, take}
 use Rattle.memory.specs.Bytes.{Mem}
+use Rattle.state.specs.declared.gate.Gate.the-variants.{Open}
 use Rattle.state.specs.declared.State.{State}
+use Rattle.state.specs.Gate.{gateMem}
 use Rattle.board.specs.declared.Outcome.{Outcome}
 use Rattle.board.specs.CpuSide.{cpuRead, cpuPeek, cpuWrite}
-use Rattle.board.specs.Outcomes.{After}
+use Rattle.board.specs.Outcomes.{After, afterOf}
 use Rattle.board.specs.Whole.{resetCall, clockCall, ppuRegisterCall, mirroringCall, interruptCall}
 use Rattle.board_ppu.specs.Fetch.{ppuFetch}
 use Rattle.board_ppu.specs.Peeks.{ppuWrite, ppuPeek, spritePeek}
 use Rattle.views.specs.Views.{cpuView, ppuView}
 use Rattle.trace.specs.declared.Call.the-variants.{Clock, CpuRead, CpuWrite, PpuRegister, PpuFetch, Reset, PpuWrite}
+use Rattle.calls.specs.Called.{overLent}
 use Rattle.told.specs.Told.{toldPlain, mirroringTold, interruptTold}
 use Rattle.words.specs.Words.{Words}
 use Rattle.host.specs.Hosted.{LeftWords, leftWords, leavingWords, onWords, LeftMemory, leftMemory, leavingMemory, onMemory}
@@ -66,19 +69,30 @@ module _ (b : Board) {l k : List ℕ} {w : Words} {m : Mem} {r : ℕ} {n : Heari
       let p = carried (λ j h. taken (copyOn (h .words) (λ (s : State). f s (h .mem) j) out)) (λ j h. h) (ap taken t) refl q in
       (p .0 ∙ ap taken (copy-on (b .state) (λ (s : State). f s (b .mem) k) out) ∙ ap bytes (copied-whole i out z), p .1)
 
-pub step : (b : Board) (c : Made) (n : Hearing) (h' : Held) → Calls c (heldOf b) n h' → Gives n h' (hears b c) (heldOf (leaves b c))
+-- A call on the state alone is the board's where the buffers are as recorded.
+pub over-lent : (s : State) (m : Mem) (o : Outcome) → gateMem s m ≡ Open → afterOf o m ≡ overLent s m o
+over-lent s m o g = rw g
+
+alone-step : (b : Board) (o : Outcome) {n : Hearing} {h' : Held} → gateMem (b .state) (b .mem) ≡ Open → Gives n h' (number (leavingWords o .number)) (held (leavingWords o .words) (b .mem))
+    → let x = overLent (b .state) (b .mem) o in Gives n h' (number (leavingMemory x .number)) (held (leavingMemory x .words) (leavingMemory x .mem))
+alone-step b o {n} {h'} g p =
+    subst (λ (x : After). Gives n h' (number (leavingMemory x .number)) (held (leavingMemory x .words) (leavingMemory x .mem))) (over-lent (b .state) (b .mem) o g) p
+
+-- Behind an open gate.
+pub step : (b : Board) → gateMem (b .state) (b .mem) ≡ Open → (c : Made) (n : Hearing) (h' : Held) → Calls c (heldOf b) n h' → Gives n h' (hears b c) (heldOf (leaves b c))
 unfolding Calls hears withInterrupt plainly says leaves
-step b (call Clock) n h' (κ, i, r, e, t, q) = words-step b (λ s m l. clockCall s) t q
-step b (call Reset) n h' (κ, i, r, e, t, q) = words-step b (λ s m l. resetCall s) t q
-step b (call (PpuRegister a v)) n h' (κ, i, r, e, t, q) = words-step b (λ s m l. ppuRegisterCall s (getD l 0 0) (getD l 1 0)) t q
-step b (call (CpuRead a)) n h' (κ, i, r, e, t, q) = words-step b (λ s m l. cpuRead s m (getD l 0 0)) t q
-step b (call (PpuFetch a)) n h' (κ, i, r, e, t, q) = words-step b (λ s m l. ppuFetch s m (getD l 0 0)) t q
-step b (call (CpuWrite a v)) n h' (κ, i, r, e, t, q) = memory-step b (λ s m l. cpuWrite s m (getD l 0 0) (getD l 1 0)) t q
-step b (call (PpuWrite a v)) n h' (κ, i, r, e, t, q) = memory-step b (λ s m l. ppuWrite s m (getD l 0 0) (getD l 1 0)) t q
-step b (peek a) n h' (κ, i, r, e, t, q) = look-step b toldPlain (λ s m l. cpuPeek s m (getD l 0 0)) t q
-step b (ppu-peek a) n h' (κ, i, r, e, t, q) = look-step b toldPlain (λ s m l. ppuPeek s m (getD l 0 0)) t q
-step b (sprite-peek a) n h' (κ, i, r, e, t, q) = look-step b toldPlain (λ s m l. spritePeek s m (getD l 0 0)) t q
-step b mirroring-asked n h' (κ, i, r, e, t, q) = look-step b mirroringTold (λ s m l. mirroringCall s) t q
-step b interrupt-asked n h' (κ, i, r, e, t, q) = look-step b interruptTold (λ s m l. interruptCall s) t q
-step b (cpu-page a) n h' (κ, i, r, e, t, q) = page-step b _ (λ s m l. cpuView s m (getD l 0 0)) (cpu-page-whole (b .state) (b .mem) (a .0)) (t .0) (t .1) q
-step b (ppu-page a) n h' (κ, i, r, e, t, q) = page-step b _ (λ s m l. ppuView s m (getD l 0 0)) (ppu-page-whole (b .state) (b .mem) (a .0)) (t .0) (t .1) q
+step b g (call Clock) n h' (κ, i, r, e, t, q) = alone-step b (clockCall (b .state)) g (words-step b (λ s m l. clockCall s) t q)
+step b g (call Reset) n h' (κ, i, r, e, t, q) = alone-step b (resetCall (b .state)) g (words-step b (λ s m l. resetCall s) t q)
+step b g (call (PpuRegister a v)) n h' (κ, i, r, e, t, q) =
+    alone-step b (ppuRegisterCall (b .state) (a .0) v) g (words-step b (λ s m l. ppuRegisterCall s (getD l 0 0) (getD l 1 0)) t q)
+step b g (call (CpuRead a)) n h' (κ, i, r, e, t, q) = words-step b (λ s m l. cpuRead s m (getD l 0 0)) t q
+step b g (call (PpuFetch a)) n h' (κ, i, r, e, t, q) = words-step b (λ s m l. ppuFetch s m (getD l 0 0)) t q
+step b g (call (CpuWrite a v)) n h' (κ, i, r, e, t, q) = memory-step b (λ s m l. cpuWrite s m (getD l 0 0) (getD l 1 0)) t q
+step b g (call (PpuWrite a v)) n h' (κ, i, r, e, t, q) = memory-step b (λ s m l. ppuWrite s m (getD l 0 0) (getD l 1 0)) t q
+step b g (peek a) n h' (κ, i, r, e, t, q) = look-step b toldPlain (λ s m l. cpuPeek s m (getD l 0 0)) t q
+step b g (ppu-peek a) n h' (κ, i, r, e, t, q) = look-step b toldPlain (λ s m l. ppuPeek s m (getD l 0 0)) t q
+step b g (sprite-peek a) n h' (κ, i, r, e, t, q) = look-step b toldPlain (λ s m l. spritePeek s m (getD l 0 0)) t q
+step b g mirroring-asked n h' (κ, i, r, e, t, q) = look-step b mirroringTold (λ s m l. mirroringCall s) t q
+step b g interrupt-asked n h' (κ, i, r, e, t, q) = look-step b interruptTold (λ s m l. interruptCall s) t q
+step b g (cpu-page a) n h' (κ, i, r, e, t, q) = page-step b _ (λ s m l. cpuView s m (getD l 0 0)) (cpu-page-whole (b .state) (b .mem) (a .0)) (t .0) (t .1) q
+step b g (ppu-page a) n h' (κ, i, r, e, t, q) = page-step b _ (λ s m l. ppuView s m (getD l 0 0)) (ppu-page-whole (b .state) (b .mem) (a .0)) (t .0) (t .1) q

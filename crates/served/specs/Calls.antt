@@ -11,6 +11,7 @@ use lib.ListN.{length, take}
 use Rattle.memory.specs.Bytes.{Mem}
 use Rattle.registers.specs.declared.Mirroring.{Mirroring}
 use Rattle.trace.specs.declared.Call.the-variants.{Clock, CpuRead, CpuWrite, PpuRegister, PpuFetch, Reset, PpuWrite}
+use Rattle.calls.specs.Lent.{memLeft}
 use Rattle.words.specs.Words.{Words, mirroringNumbered}
 use Rattle.histories.specs.Boards.{Made}
 use Rattle.histories.specs.Boards.Made.{call, peek, ppu-peek, sprite-peek, mirroring-asked, interrupt-asked, cpu-page, ppu-page}
@@ -32,7 +33,6 @@ use Rattle.host_looks.proofs.peeks.mmc5_sprite_peek.Reads as sprite-peeked
 use Rattle.host_looks.proofs.whole.mmc5_interrupt.Reads as interrupt-told
 use Rattle.host_looks.proofs.whole.mmc5_mirroring.Reads as mirroring-told
 use Rattle.host_replay.proofs.mmc5_replay.Reads as replay
-use Rattle.settles.specs.Settled.{memLeft}
 use Rattle.settles.specs.Hosts.{wordsLeft, behindWords}
 use Rattle.served.specs.Held.{Held, held, Hearing, exchange, looking, Allowed, lentIn, behindLent}
 use Rattle.served.specs.Held.Hearing.{number, bytes}

@@ -1,6 +1,7 @@
 -- 00, demand 1: "Every call takes all inputs, checks its own". A function that a host may call asks nothing of its caller: `Asked` is what a contract
 -- requires, as the prover reads it off the code. One line for each function exported to C, crate by crate.
 -- Assumes nothing.
+use Rattle.histories.specs.Code.{TakesAll}
 use Rattle.host.proofs.clocks.mmc5_clock.Reads as clock
 use Rattle.host.proofs.cpu_side.mmc5_cpu_write.Reads as cpu-write
 use Rattle.host.proofs.fetches.mmc5_ppu_fetch.Reads as ppu-fetch
@@ -19,10 +20,6 @@ use Rattle.host_looks.proofs.peeks.mmc5_sprite_peek.Reads as sprite-peek
 use Rattle.host_looks.proofs.whole.mmc5_interrupt.Reads as interrupt
 use Rattle.host_looks.proofs.whole.mmc5_mirroring.Reads as mirroring
 use Rattle.host_replay.proofs.mmc5_replay.Reads as replay
-
--- Whatever the arguments are, what is asked of them holds.
-abbrev pub TakesAll : {K : Type 0} {A : K → Type 0} → ((κ : K) → A κ → Type 0) → Type 0
-TakesAll {K} {A} asked = (κ : K) (a : A κ) → asked κ a
 
 pub record ExportsTakeAll : Type 0 where
   pub load : TakesAll load.Asked

@@ -4,11 +4,10 @@
 use Prim.Native.Nat.{ℕ}
 use mathlib.Core.List.{List}
 use mathlib.Core.Path.{_≡_}
-use denote.Ref.{now}
-use Rattle.memory.specs.Bytes.{Mem, memOf}
+use Rattle.memory.specs.Bytes.{Mem}
+use Rattle.calls.specs.Lent.{BufferThen, MemoryThen, memLent, behindMemory}
 use Rattle.words.specs.Words.{Words, stateOf, wordsOf}
 use Rattle.histories.specs.Boards.{Board}
-use Rattle.settles.specs.Settled.{BufferThen}
 use Rattle.settles.specs.Hosts.{wordsLeft, behindWords}
 
 -- The seven arrays of words with which a function's parameters begin, as crate `settles` looks at them.
@@ -55,12 +54,10 @@ Allowed {K} {A} {R} {E} allows look x = (κ : K) × (a : A κ) × (r : R κ) × 
 
 -- Behind the words come the five buffers; a look at all that is lent.
 abbrev pub Lent : Type 0 → Type 0
-Lent X = WordsThen (BufferThen (BufferThen (BufferThen (BufferThen (BufferThen X)))))
+Lent X = WordsThen (MemoryThen X)
 
 abbrev pub lentIn : {X : Type 0} → Lent X → Held
-lentIn a =
-    let m = behindWords a in
-    held (wordsLeft a) (memOf (now (m .0)) (now (m .1 .0)) (now (m .1 .1 .0)) (now (m .1 .1 .1 .0)) (now (m .1 .1 .1 .1 .0)))
+lentIn a = held (wordsLeft a) (memLent (behindWords a))
 
 abbrev pub behindLent : {X : Type 0} → Lent X → X
-behindLent a = behindWords a .1 .1 .1 .1 .1
+behindLent a = behindMemory (behindWords a)

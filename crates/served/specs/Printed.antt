@@ -11,6 +11,7 @@ use lib.ListN.{length, drop}
 use Rattle.memory.specs.Words.{asBit}
 use Rattle.answers.specs.declared.Answer.the-variants.{Nothing}
 use Rattle.answers.specs.declared.Refusal.{Refusal}
+use Rattle.answers.specs.Refused.{ifRefused}
 use Rattle.registers.specs.declared.Mirroring.the-variants.{Horizontal}
 use Rattle.board.specs.Loads.{loadCall}
 use Rattle.trace.specs.declared.Call.{Call}
@@ -21,7 +22,7 @@ use Rattle.text.specs.Lines.{acceptedLine, refusedLine, unreadableLine, endLine
 use Rattle.lines.specs.Told.{up, Up}
 use Rattle.lines.specs.Promise.{historyOf}
 use Rattle.logs.specs.Logs.{logLetter}
-use Rattle.player.specs.Replay.{found, answered}
+use Rattle.player.specs.Replay.{found}
 use Rattle.transcript.specs.Cartridge.{transcript}
 use Rattle.transcript.proofs.cartridge.transcribe.Reads as transcribe
 use Rattle.histories.specs.Boards.{Board, Made, says, leaves, number}
@@ -37,7 +38,7 @@ linesAfter (suc k) trace at cs b =
     (endLine (length cs))
     (λ (why : Refusal). unreadableLine (length cs) why)
     (λ (c : Call) (next : ℕ).
-    answered (answerAt b c)
+    ifRefused (answerAt b c)
     (λ (why : Refusal). refusedLine (length cs) (kindOf c) why)
     (acceptedLine (length cs) (kindOf c) (answerAt b c) (up (historyOf event (map call (c ∷ cs)))) ++ linesAfter k trace next (c ∷ cs) (leaves b (call c))))
 
