@@ -2,7 +2,7 @@
 // `transcript` (crate transcript, specs/Cartridge.antt); what is said of standard input and output is the C library's.
 // `stdin` and `stdout` are 01's worked example.
 
-// The text finds room: `TranscriptIsTold.room`, crates/transcript/specs/Told.antt.
+// The text stands whole in `out`: `TranscriptIsHistory.whole`, crates/served/specs/Printed.antt.
 fn main() {
     let mut input = io::large_buffer();
     let mut out = [0u8; 131072];

@@ -6,10 +6,11 @@ use Rattle.memory.proofs.tables.prg_place.Reads as memory-prg-place
 use Rattle.cpu.proofs.writes.cpu_write.Reads as cpu-write
 use Rattle.arms.proofs.cpu_side.store.Reads as arms-store
 use Rattle.arms.proofs.ppu_side.count_fetch.Reads as arms-count-fetch
+use Rattle.calls.specs.Lent.{memLeft}
 use Rattle.words.proofs.groups.put_detector.Reads as words-put-detector
 use Rattle.words.proofs.groups.put_region.Reads as words-put-region
 use Rattle.words.proofs.groups.put_tiles.Reads as words-put-tiles
-use Rattle.settles.specs.Settled.{Result, Settles, beside, memLeft}
+use Rattle.settles.specs.Settled.{Result, Settles, beside}
 use Rattle.settles.specs.ByHand.{clock-lent, new, advanced}
 use Rattle.settles.proofs.Law.{settled, both}
 

@@ -1,13 +1,13 @@
--- After the load of 01's cartridge, the numbers that answers give are bytes.
+-- After a load the numbers that answers give are bytes, and so are those of 01's cartridge.
 use Prim.Native.Nat.{ℕ, zero, suc, _+_, _*_, _<_, _≤_}
-use mathlib.Core.Bool.{false, not}
+use mathlib.Core.Bool.{Bool, not}
 use native.Mathlib.Omega.{arith}
 use borrow.Author.Tests.{ltb-true, ltb-false}
 use lib.Dec.{ltb}
 use lib.ListN.{length, getD, replicate, List·getD-eq-default}
 use Rattle.memory.specs.Bytes.{Mem}
 use Rattle.memory.proofs.Tests.{split, pick-keeps}
-use Rattle.registers.specs.declared.Mirroring.the-variants.{Horizontal}
+use Rattle.registers.specs.declared.Mirroring.{Mirroring}
 use Rattle.registers.specs.Registers.{regsAtLoad}
 use Rattle.split.specs.Control.{afterLoad}
 use Rattle.state.specs.declared.Lengths.{Lengths}
@@ -60,16 +60,16 @@ zero-small =
       chr-banks = zeros-small 16;
     }
 
-loaded-small : (z : Lengths) → SmallState (loadedState z Horizontal)
+loaded-small : (z : Lengths) (k : Mirroring) → SmallState (loadedState z k)
 unfolding loadedState
-loaded-small z = record { regs = regs-small; split = split-at-load; line = omega arith; prg-banks = banks-small (z .prg); chr-banks = zeros-small 16 }
+loaded-small z k = record { regs = regs-small; split = split-at-load; line = omega arith; prg-banks = banks-small (z .prg); chr-banks = zeros-small 16 }
 
 abbrev SmallLoad : Outcome → Type 0
 SmallLoad o = SmallState (o .state)
 
-pub load-small : (m : Mem) → SmallState (loadCall m false Horizontal .state)
+pub load-small : (m : Mem) (ram : Bool) (k : Mirroring) → SmallState (loadCall m ram k .state)
 unfolding loadCall
-load-small m =
+load-small m ram k =
     pick-keeps SmallLoad (not (prgTaken (length (m .prg)))) zero-small
     (pick-keeps SmallLoad (not (chrTaken (length (m .chr)))) zero-small
-    (pick-keeps SmallLoad (not (ramTaken (length (m .ram)) (length (m .ciram)) (length (m .exram)))) zero-small (loaded-small _)))
+    (pick-keeps SmallLoad (not (ramTaken (length (m .ram)) (length (m .ciram)) (length (m .exram)))) zero-small (loaded-small _ k)))

@@ -79,7 +79,7 @@ room most r trace =
       r,
       h,
       ap (λ (l : List ℕ). length l) (told trace h),
-      told-short (suc (length trace)) trace 0 0 (loadCall cartridge false Horizontal .state) cartridge h (omega arith) (omega arith) (load-small cartridge) cartridge-small,
+      told-short (suc (length trace)) trace 0 0 (loadCall cartridge false Horizontal .state) cartridge h (omega arith) (omega arith) (load-small cartridge false Horizontal) cartridge-small,
     ))
 
 pub transcript-is-told : TranscriptIsTold

@@ -1,0 +1,155 @@
+-- Every call of a history is one that the library's contracts allow: lent the words of a state, it tells what `hears` says and leaves the words of
+-- what `leaves` says.
+use Prim.Native.Nat.{ℕ, zero, suc}
+use mathlib.Core.Bool.{Bool, true, false, not}
+use mathlib.Core.List.{List, [], _∷_}
+use mathlib.Core.Path.{_≡_, refl, sym, _∙_, ap, subst}
+use contract.Lifetimes.{Lfts}
+use denote.Ref.{RefT}
+use lib.Dec.{eqb}
+use lib.ListN.{length, replicate, length-replicate}
+use Rattle.memory.specs.Bytes.{Mem}
+use Rattle.memory.specs.Words.{asBit}
+use Rattle.registers.specs.declared.Mirroring.{Mirroring}
+use Rattle.registers.specs.declared.Mirroring.the-variants.{Horizontal, Vertical, SingleScreenA, SingleScreenB, FourScreen}
+use Rattle.state.specs.declared.gate.Gate.the-variants.{Open}
+use Rattle.state.specs.declared.State.{State}
+use Rattle.state.specs.Gate.{gateMem}
+use Rattle.board.specs.declared.Outcome.{Outcome}
+use Rattle.board.specs.Outcomes.{After}
+use Rattle.board.specs.CpuSide.{cpuRead, cpuPeek, cpuWrite}
+use Rattle.board.specs.Loads.{loadCall}
+use Rattle.board.specs.Whole.{resetCall, clockCall, ppuRegisterCall, mirroringCall, interruptCall}
+use Rattle.board_ppu.specs.Fetch.{ppuFetch}
+use Rattle.board_ppu.specs.Peeks.{ppuWrite, ppuPeek, spritePeek}
+use Rattle.views.specs.Views.{cpuView, ppuView}
+use Rattle.trace.specs.declared.Call.the-variants.{Clock, CpuRead, CpuWrite, PpuRegister, PpuFetch, Reset, PpuWrite}
+use Rattle.calls.specs.Called.{overLent}
+use Rattle.told.specs.Told.{toldPlain, toldWith, mirroringTold, interruptTold}
+use Rattle.words.specs.Words.{Words, mirroringNumbered, numberOfMirroring, wordsOf}
+use Rattle.host.specs.Hosted.{leftMemory}
+use Rattle.host_looks.specs.Pages.{copied}
+use Rattle.histories.specs.Boards.{Board, Made, says, leaves}
+use Rattle.histories.specs.Boards.Made.{call, peek, ppu-peek, sprite-peek, mirroring-asked, interrupt-asked, cpu-page, ppu-page}
+use Rattle.served.specs.Held.{Held, held, heldOf, exchange, looking, WordsThen, Lent}
+use Rattle.served.specs.Held.Hearing.{number, bytes}
+use Rattle.served.specs.Calls.{loading, Loads, Calls}
+use Rattle.served.specs.Served.{plainly, withInterrupt, hears}
+use Rattle.served.proofs.Pages.{copied-whole, cpu-page-whole, ppu-page-whole}
+use Rattle.served.proofs.Roms.{write-rom, store-rom}
+use Rattle.served.proofs.Stands.{on-words, on-memory, look-on, copy-on}
+use Rattle.served.proofs.Steps.{over-lent}
+
+-- Something lent, for some lifetimes.
+abbrev lend : {X : Type 0} → X → RefT X
+lend x = record { ptr = (0, 0); name = 0; now = x }
+
+abbrev lifetimes : (n : ℕ) → Lfts n
+lifetimes zero = tt
+lifetimes (suc n) = ([], lifetimes n)
+
+abbrev lendWords : {X : Type 0} → Words → X → WordsThen X
+lendWords w x = (lend (w .bytes), (lend (w .halves), (lend (w .wide), (lend (w .prgBanks), (lend (w .chrBanks), (lend (w .prgPages), (lend (w .chrPages), x)))))))
+
+abbrev lendAll : {X : Type 0} → Held → X → Lent X
+lendAll h x = lendWords (h .words) (lend (h .mem .prg), (lend (h .mem .chr), (lend (h .mem .ram), (lend (h .mem .ciram), (lend (h .mem .exram), x)))))
+
+-- Room for a page.
+room : List ℕ
+room = replicate 1024 0
+
+room-for : length room ≡ 1024
+unfolding room
+room-for = length-replicate {A = ℕ} 1024 0
+
+-- A call on the state alone is the board's where the buffers are as recorded.
+alone : (c : Made) (b : Board) (o : Outcome) → gateMem (b .state) (b .mem) ≡ Open → Calls c (heldOf b) (number (toldWith (o .answer) (o .state .irq))) (held (wordsOf (o .state)) (b .mem))
+    → let x = overLent (b .state) (b .mem) o in Calls c (heldOf b) (number (toldWith (x .out .answer) (x .out .state .irq))) (held (wordsOf (x .out .state)) (x .mem))
+alone c b o g p =
+    subst (λ (x : After). Calls c (heldOf b) (number (toldWith (x .out .answer) (x .out .state .irq))) (held (wordsOf (x .out .state)) (x .mem))) (over-lent (b .state) (b .mem) o g) p
+
+-- Behind an open gate.
+pub lends : (b : Board) → gateMem (b .state) (b .mem) ≡ Open → (c : Made) → Calls c (heldOf b) (hears b c) (heldOf (leaves b c))
+unfolding Calls hears withInterrupt plainly says leaves
+lends b g (call Clock) =
+    alone (call Clock) b (clockCall (b .state)) g
+    (lifetimes 7, lendWords (wordsOf (b .state)) tt, _, lendWords (wordsOf (clockCall (b .state) .state)) tt, sym (on-words (b .state) clockCall), refl)
+lends b g (call Reset) =
+    alone (call Reset) b (resetCall (b .state)) g
+    (lifetimes 7, lendWords (wordsOf (b .state)) tt, _, lendWords (wordsOf (resetCall (b .state) .state)) tt, sym (on-words (b .state) resetCall), refl)
+lends b g (call (PpuRegister a v)) =
+    alone (call (PpuRegister a v)) b (ppuRegisterCall (b .state) (a .0) v) g (
+      lifetimes 7,
+      lendWords (wordsOf (b .state)) (a .0, (v, tt)),
+      _,
+      lendWords (wordsOf (ppuRegisterCall (b .state) (a .0) v .state)) (a .0, (v, tt)),
+      sym (on-words (b .state) (λ (s : State). ppuRegisterCall s (a .0) v)),
+      refl,
+    )
+lends b g (call (CpuRead a)) =
+    (lifetimes 12, lendAll (heldOf b) (a .0, tt), _, lendAll (heldOf (leaves b (call (CpuRead a)))) (a .0, tt), sym (on-words (b .state) (λ (s : State). cpuRead s (b .mem) (a .0))), refl)
+lends b g (call (PpuFetch a)) =
+    (lifetimes 12, lendAll (heldOf b) (a .0, tt), _, lendAll (heldOf (leaves b (call (PpuFetch a)))) (a .0, tt), sym (on-words (b .state) (λ (s : State). ppuFetch s (b .mem) (a .0))), refl)
+lends b g (call (CpuWrite a v)) = (
+  lifetimes 12,
+  lendAll (heldOf b) (a .0, (v, tt)),
+  _,
+  lendAll (heldOf (leaves b (call (CpuWrite a v)))) (a .0, (v, tt)),
+  ap (leftMemory _ _) (write-rom (b .state) (b .mem) (a .0) v) ∙ sym (on-memory (b .state) (b .mem) (λ (s : State). cpuWrite s (b .mem) (a .0) v)),
+  ap (λ (m : Mem). exchange (a .0 ∷ v ∷ []) (heldOf b) (hears b (call (CpuWrite a v))) (held (wordsOf (leaves b (call (CpuWrite a v)) .state)) m)) (write-rom (b .state) (b .mem) (a .0) v),
+)
+lends b g (call (PpuWrite a v)) = (
+  lifetimes 12,
+  lendAll (heldOf b) (a .0, (v, tt)),
+  _,
+  lendAll (heldOf (leaves b (call (PpuWrite a v)))) (a .0, (v, tt)),
+  ap (leftMemory _ _) (store-rom (b .state) (b .mem) (a .0) v) ∙ sym (on-memory (b .state) (b .mem) (λ (s : State). ppuWrite s (b .mem) (a .0) v)),
+  ap (λ (m : Mem). exchange (a .0 ∷ v ∷ []) (heldOf b) (hears b (call (PpuWrite a v))) (held (wordsOf (leaves b (call (PpuWrite a v)) .state)) m)) (store-rom (b .state) (b .mem) (a .0) v),
+)
+lends b g (peek a) = (lifetimes 12, lendAll (heldOf b) (a .0, tt), _, lendAll (heldOf b) (a .0, tt), sym (look-on (b .state) toldPlain (λ (s : State). cpuPeek s (b .mem) (a .0))), refl)
+lends b g (ppu-peek a) = (lifetimes 12, lendAll (heldOf b) (a .0, tt), _, lendAll (heldOf b) (a .0, tt), sym (look-on (b .state) toldPlain (λ (s : State). ppuPeek s (b .mem) (a .0))), refl)
+lends b g (sprite-peek a) = (lifetimes 12, lendAll (heldOf b) (a .0, tt), _, lendAll (heldOf b) (a .0, tt), sym (look-on (b .state) toldPlain (λ (s : State). spritePeek s (b .mem) (a .0))), refl)
+lends b g mirroring-asked = (lifetimes 7, lendWords (wordsOf (b .state)) tt, _, lendWords (wordsOf (b .state)) tt, sym (look-on (b .state) mirroringTold mirroringCall), refl)
+lends b g interrupt-asked = (lifetimes 7, lendWords (wordsOf (b .state)) tt, _, lendWords (wordsOf (b .state)) tt, sym (look-on (b .state) interruptTold interruptCall), refl)
+lends b g (cpu-page a) =
+    let c = copied true (cpuView (b .state) (b .mem) (a .0)) room in (
+      lifetimes 12,
+      lendAll (heldOf b) (a .0, (lend room, tt)),
+      c .count,
+      lendAll (heldOf b) (a .0, (lend (c .bytes), tt)),
+      (sym (copy-on (b .state) (λ (s : State). cpuView s (b .mem) (a .0)) room), room-for),
+      ap (λ (l : List ℕ). looking (a .0 ∷ []) (heldOf b) (bytes l)) (copied-whole (cpu-page-whole (b .state) (b .mem) (a .0)) room room-for),
+    )
+lends b g (ppu-page a) =
+    let c = copied true (ppuView (b .state) (b .mem) (a .0)) room in (
+      lifetimes 13,
+      lendAll (heldOf b) (a .0, (lend room, tt)),
+      c .count,
+      lendAll (heldOf b) (a .0, (lend (c .bytes), tt)),
+      (sym (copy-on (b .state) (λ (s : State). ppuView s (b .mem) (a .0)) room), room-for),
+      ap (λ (l : List ℕ). looking (a .0 ∷ []) (heldOf b) (bytes l)) (copied-whole (ppu-page-whole (b .state) (b .mem) (a .0)) room room-for),
+    )
+
+-- A load, by the numbers for its two settings.
+writable-back : (b : Bool) → not (eqb (asBit b) 0) ≡ b
+writable-back true = refl
+writable-back false = refl
+
+mirroring-back : (m : Mirroring) → mirroringNumbered (numberOfMirroring m) ≡ m
+mirroring-back Horizontal = refl
+mirroring-back Vertical = refl
+mirroring-back SingleScreenA = refl
+mirroring-back SingleScreenB = refl
+mirroring-back FourScreen = refl
+
+pub lends-load : (m : Mem) (ram : Bool) (k : Mirroring) → let o = loadCall m ram k in Loads (loading m ram k (toldWith (o .answer) (o .state .irq)) (wordsOf (o .state)))
+unfolding Loads
+lends-load m ram k =
+    let o = loadCall m ram k in (
+      lifetimes 12,
+      lendAll (held (wordsOf (o .state)) m) (asBit ram, (numberOfMirroring k, tt)),
+      toldWith (o .answer) (o .state .irq),
+      lendAll (held (wordsOf (o .state)) m) (asBit ram, (numberOfMirroring k, tt)),
+      rw (writable-back ram, mirroring-back k),
+      rw (writable-back ram, mirroring-back k),
+    )

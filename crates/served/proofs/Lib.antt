@@ -1,0 +1,11 @@
+pub mod Stands
+pub mod Pages
+pub mod Roms
+pub mod Steps
+pub mod Lending
+pub mod Refusing
+pub mod Replaying
+pub mod Along
+pub mod Exported
+pub mod Lines
+pub mod Interrupting

@@ -1,0 +1,63 @@
+-- What a host holds between calls, what that stands for, and how a call of the library looks to it. No place of a word is named here or in what is
+-- built on it: of words only `stateOf` and `wordsOf` are known (crate `words`).
+-- Assumes nothing.
+use Prim.Native.Nat.{ℕ}
+use mathlib.Core.List.{List}
+use mathlib.Core.Path.{_≡_}
+use Rattle.memory.specs.Bytes.{Mem}
+use Rattle.calls.specs.Lent.{BufferThen, MemoryThen, memLent, behindMemory}
+use Rattle.words.specs.Words.{Words, stateOf, wordsOf}
+use Rattle.histories.specs.Boards.{Board}
+use Rattle.settles.specs.Hosts.{wordsLeft, behindWords}
+
+-- The seven arrays of words with which a function's parameters begin, as crate `settles` looks at them.
+abbrev pub WordsThen : Type 0 → Type 0
+WordsThen X = BufferThen (BufferThen (BufferThen (BufferThen (BufferThen (BufferThen (BufferThen X))))))
+
+-- The words and the five buffers.
+pub record Held : Type 0 where
+  pub words : Words
+  pub mem : Mem
+
+abbrev pub held : Words → Mem → Held
+held w m = record { words = w; mem = m }
+
+-- The board that they stand for, and what stands for a board.
+abbrev pub boardOf : Held → Board
+boardOf h = record { state = stateOf (h .words); mem = h .mem }
+
+abbrev pub heldOf : Board → Held
+heldOf b = held (wordsOf (b .state)) (b .mem)
+
+-- What a host is told: a number; of a page view the bytes that were copied.
+pub data Hearing : Type 0 where
+  number : ℕ → Hearing
+  bytes : List ℕ → Hearing
+
+-- A call of the library as a host sees it: its own numbers (address and value), what is lent, what is told, and what the host holds then.
+pub record Exchange : Type 0 where
+  pub own : List ℕ
+  pub before : Held
+  pub told : Hearing
+  pub after : Held
+
+abbrev pub exchange : List ℕ → Held → Hearing → Held → Exchange
+exchange l h n h' = record { own = l; before = h; told = n; after = h' }
+
+-- A call that leaves all that it is lent.
+abbrev pub looking : List ℕ → Held → Hearing → Exchange
+looking l h n = exchange l h n h
+
+-- A function's contract (`Learnt`: what a caller may rely on, as the prover reads it off the code) allows something that looks like x.
+abbrev pub Allowed : {K : Type 0} {A R E : K → Type 0} {X : Type 0} → ((κ : K) → A κ → R κ → E κ → Type 0) → ((κ : K) → A κ → R κ → E κ → X) → X → Type 0
+Allowed {K} {A} {R} {E} allows look x = (κ : K) × (a : A κ) × (r : R κ) × (e : E κ) × allows κ a r e × (look κ a r e ≡ x)
+
+-- Behind the words come the five buffers; a look at all that is lent.
+abbrev pub Lent : Type 0 → Type 0
+Lent X = WordsThen (MemoryThen X)
+
+abbrev pub lentIn : {X : Type 0} → Lent X → Held
+lentIn a = held (wordsLeft a) (memLent (behindWords a))
+
+abbrev pub behindLent : {X : Type 0} → Lent X → X
+behindLent a = behindMemory (behindWords a)

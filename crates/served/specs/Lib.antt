@@ -1,0 +1,6 @@
+pub mod Held
+pub mod Calls
+pub mod Served
+pub mod Exports
+pub mod Interrupts
+pub mod Printed
