@@ -140,24 +140,45 @@ below-eqb a n l h = ne-eqb a n (λ e. absurd (omega (arith, l, leb-true 0x5118 n
 below-within : (a lo hi : ℕ) → a < 0x5118 → leb 0x5118 lo ≡ true → within lo hi a ≡ false
 below-within a lo hi l h = split (within lo hi a) (λ t. absurd (omega (arith, l, leb-true 0x5118 lo h, leb-true lo a (and-left (leb lo a) (leb a hi) t)))) (λ f. f)
 
+-- A state with the groups that a write which maps PRG pages leaves, and with those that any other leaves.
+abbrev pub prgLeft : State → Regs → List ℕ → List PageWord → State
+prgLeft s g b pages =
+    record {
+      lengths = s .lengths;
+      regs = g;
+      vsplit = s .vsplit;
+      irq = s .irq;
+      ppu = s .ppu;
+      screen = s .screen;
+      «prg_banks» = b;
+      «chr_banks» = s .«chr_banks»;
+      «prg_pages» = pages;
+      «chr_pages» = s .«chr_pages»;
+    }
+
+abbrev pub restLeft : State → Regs → VSplit → Detector → PpuStatus → Mirroring → List ℕ → List PageWord → PageWord → State
+restLeft s g w d p r b pages x =
+    record {
+      lengths = s .lengths;
+      regs = g;
+      vsplit = w;
+      irq = d;
+      ppu = p;
+      screen = record { mirroring = r };
+      «prg_banks» = s .«prg_banks»;
+      «chr_banks» = b;
+      «prg_pages» = set (s .«prg_pages») 23 x;
+      «chr_pages» = pages;
+    }
+
 module _ (s : State) (a v : ℕ) where
   -- A write that maps PRG pages: the registers, the PRG banks and the PRG table, and nothing else.
-  pub write-prg : mapsPrg a ≡ true
+  write-prg-is : mapsPrg a ≡ true
       → registerWritten s a v
-      ≡ record {
-        lengths = s .lengths;
-        regs = written (s .regs) a v;
-        vsplit = s .vsplit;
-        irq = s .irq;
-        ppu = s .ppu;
-        screen = s .screen;
-        «prg_banks» = prgBanksAfter (s .«prg_banks») a v;
-        «chr_banks» = s .«chr_banks»;
-        «prg_pages» = prgMapped (s .lengths .prg) (s .lengths .ram) (written (s .regs) a v) (prgBanksAfter (s .«prg_banks») a v) (s .«prg_pages»);
-        «chr_pages» = s .«chr_pages»;
-      }
+      ≡ prgLeft s (written (s .regs) a v) (prgBanksAfter (s .«prg_banks») a v)
+      (prgMapped (s .lengths .prg) (s .lengths .ram) (written (s .regs) a v) (prgBanksAfter (s .«prg_banks») a v) (s .«prg_pages»))
   unfolding registerWritten splitAfter irqAfter ppuAfter chrBanksAfter prgPagesAfter chrPagesAfter
-  write-prg t =
+  write-prg-is t =
       let o = prg-only a t in
       rw (
         t,
@@ -176,29 +197,29 @@ module _ (s : State) (a v : ℕ) where
       )
 
   -- Any other write leaves the PRG banks, and of the PRG table all but ExRAM's page.
-  pub write-rest : mapsPrg a ≡ false
+  write-rest-is : mapsPrg a ≡ false
       → registerWritten s a v
-      ≡ record {
-        lengths = s .lengths;
-        regs = written (s .regs) a v;
-        vsplit = splitAfter (s .vsplit) a v;
-        irq = irqAfter (s .irq) a v;
-        ppu = ppuAfter (s .ppu) (s .irq .«in_frame») a;
-        screen = record { mirroring = mirroringAfter (s .screen .mirroring) a v };
-        «prg_banks» = s .«prg_banks»;
-        «chr_banks» = chrBanksAfter (s .«chr_banks») a v;
-        «prg_pages» = set (s .«prg_pages») 23 (exramWord (getD (s .«prg_pages») 23 (word 0)) (written (s .regs) a v .«exram_mode») a);
-        «chr_pages» =
-            chrPagesAfter (s .lengths) (written (s .regs) a v) (chrBanksAfter (s .«chr_banks») a v) (ppuAfter (s .ppu) (s .irq .«in_frame») a .«bg_set») (s .«chr_pages») a;
-      }
+      ≡ restLeft s (written (s .regs) a v) (splitAfter (s .vsplit) a v) (irqAfter (s .irq) a v) (ppuAfter (s .ppu) (s .irq .«in_frame») a)
+      (mirroringAfter (s .screen .mirroring) a v)
+      (chrBanksAfter (s .«chr_banks») a v)
+      (chrPagesAfter (s .lengths) (written (s .regs) a v) (chrBanksAfter (s .«chr_banks») a v) (ppuAfter (s .ppu) (s .irq .«in_frame») a .«bg_set») (s .«chr_pages») a)
+      (exramWord (getD (s .«prg_pages») 23 (word 0)) (written (s .regs) a v .«exram_mode») a)
   unfolding registerWritten prgBanksAfter prgPagesAfter exramWord
-  write-rest f =
+  write-rest-is f =
       rw (f, neither-right (within 0x5102 0x5103 a) (within 0x5113 0x5117 a) (neither-right (eqb a 0x5100) (within 0x5102 0x5103 a || within 0x5113 0x5117 a) f))
       (split (eqb a 0x5104) (λ t. rw t) (λ n. rw (n, set-getD (s .«prg_pages») 23 (word 0))))
 
 -- The same, by what the loop has in hand.
 module _ (s : State) (a v : ℕ) where
-  pub write-rest-as : (g : Regs) (w : VSplit) (d : Detector) (p : PpuStatus) (r : Mirroring) (b : List ℕ) (pages : List PageWord) (x : PageWord)
+  pub write-prg : (g : Regs) (b : List ℕ) (pages : List PageWord)
+      → mapsPrg a ≡ true
+      → g ≡ written (s .regs) a v
+      → b ≡ prgBanksAfter (s .«prg_banks») a v
+      → pages ≡ prgMapped (s .lengths .prg) (s .lengths .ram) g b (s .«prg_pages»)
+      → registerWritten s a v ≡ prgLeft s g b pages
+  write-prg g b pages t eg eb epages = rw (epages, eb, eg) (write-prg-is s a v t)
+
+  pub write-rest : (g : Regs) (w : VSplit) (d : Detector) (p : PpuStatus) (r : Mirroring) (b : List ℕ) (pages : List PageWord) (x : PageWord)
       → mapsPrg a ≡ false
       → g ≡ written (s .regs) a v
       → w ≡ splitAfter (s .vsplit) a v
@@ -208,20 +229,8 @@ module _ (s : State) (a v : ℕ) where
       → b ≡ chrBanksAfter (s .«chr_banks») a v
       → pages ≡ chrPagesAfter (s .lengths) g b (p .«bg_set») (s .«chr_pages») a
       → x ≡ exramWord (getD (s .«prg_pages») 23 (word 0)) (g .«exram_mode») a
-      → registerWritten s a v
-      ≡ record {
-        lengths = s .lengths;
-        regs = g;
-        vsplit = w;
-        irq = d;
-        ppu = p;
-        screen = record { mirroring = r };
-        «prg_banks» = s .«prg_banks»;
-        «chr_banks» = b;
-        «prg_pages» = set (s .«prg_pages») 23 x;
-        «chr_pages» = pages;
-      }
-  write-rest-as g w d p r b pages x f eg ew ed ep er eb epages ex = rw (ex, epages, eb, er, ep, ed, ew, eg) (write-rest s a v f)
+      → registerWritten s a v ≡ restLeft s g w d p r b pages x
+  write-rest g w d p r b pages x f eg ew ed ep er eb epages ex = rw (ex, epages, eb, er, ep, ed, ew, eg) (write-rest-is s a v f)
 
 -- No register maps the page that registers are written at, page 20.
 placed-below : {A : Type 0} (l : List A) (at : ℕ) (f : ℕ → A) (n i : ℕ) (d : A) → i < at → getD (placed l at f n) i d ≡ getD l i d

@@ -1,8 +1,10 @@
 -- What each call makes behind an open gate, in the form in which the loop leaves it.
 use Prim.Native.Nat.{ℕ}
 use mathlib.Core.Bool.{Bool, true, false}
-use mathlib.Core.Path.{_≡_, refl}
+use mathlib.Core.List.{List}
+use mathlib.Core.Path.{_≡_, refl, sym, _∙_}
 use lib.Dec.{ltb}
+use Rattle.memory.specs.declared.PageWord.{PageWord}
 use Rattle.memory.specs.Bytes.{Mem, memOf, pageStored}
 use Rattle.memory.specs.Words.{pick, pageOf}
 use Rattle.memory.proofs.Tests.{split}
@@ -34,15 +36,17 @@ same-set : (b : Bool) → setChanged b b ≡ false
 same-set true = refl
 same-set false = refl
 
--- The CHR table after a choice, on a change and on none.
-module _ (s : State) (bg : Bool) where
-  pub pages-changed : setChanged (s .ppu .«bg_set») bg ≡ true → chrMapped (s .lengths .chr) (s .lengths .«chr_writable») (s .regs) (s .«chr_banks») bg (s .«chr_pages») ≡ patternPages s bg
+-- The state after a choice, by whether the set changed and what the loop has in hand: with the table mapped, or as it was.
+module _ (s t : State) (bg changed : Bool) (e : changed ≡ setChanged (s .ppu .«bg_set») bg) where
+  pub pages-changed : (pages : List PageWord) → changed ≡ true → pages ≡ chrMapped (s .lengths .chr) (s .lengths .«chr_writable») (s .regs) (s .«chr_banks») bg (s .«chr_pages»)
+      → t ≡ withChrPages s pages
+      → t ≡ withChrPages s (patternPages s bg)
   unfolding patternPages
-  pages-changed t = rw t
+  pages-changed pages c ep et = rw (et, ep, sym e ∙ c)
 
-  pub pages-same : setChanged (s .ppu .«bg_set») bg ≡ false → s .«chr_pages» ≡ patternPages s bg
+  pub pages-same : changed ≡ false → t ≡ s → t ≡ withChrPages s (patternPages s bg)
   unfolding patternPages
-  pages-same f = rw f
+  pages-same c et = rw (et, sym e ∙ c)
 
 module _ (s : State) (m : Mem) (h : gateMem s m ≡ Open) where
   pub clock-made : clockCall s ≡ outcome Nothing (withIrq s (clocked (s .irq)))

@@ -2,7 +2,6 @@
 use Prim.Native.Nat.{ℕ, _+_}
 use mathlib.Core.Bool.{true, false}
 use mathlib.Core.List.{List}
-use mathlib.Core.Logic.{_⊎_, inl, inr}
 use mathlib.Core.Path.{_≡_, refl, ap}
 use lib.Dec.{ltb}
 use Rattle.memory.specs.declared.CpuAddr.{CpuAddr}
@@ -12,19 +11,21 @@ use Rattle.memory.specs.Words.{pick, pageOf}
 use Rattle.answers.specs.declared.Answer.{Answer}
 use Rattle.answers.specs.declared.Answer.the-variants.{Nothing}
 use Rattle.answers.specs.declared.Refusal.the-variants.{Audio, Counter}
+use Rattle.scanline.specs.declared.Detector.{Detector}
 use Rattle.scanline.specs.Fetches.{countedAt}
 use Rattle.scanline.specs.Ranges.{counterRefused}
 use Rattle.scanline.specs.Steps.{clocked, interruptUp}
+use Rattle.split.specs.declared.VSplit.{VSplit}
 use Rattle.state.specs.declared.PpuStatus.{PpuStatus}
 use Rattle.state.specs.declared.State.{State}
-use Rattle.state.specs.With.{withIrq, withRegs, withPpu, withChrPages}
+use Rattle.state.specs.With.{withIrq, withRegs, withPpu, withVsplit, withChrPages}
 use Rattle.state.proofs.RangeLaws.{Ranged, ranged}
 use Rattle.cpu.specs.Reads.{audioRead, irqRead, cpuAnswer}
 use Rattle.cpu.specs.Writes.{audioWrite, latched, prgWordAt, registerWritten}
 use Rattle.ppu.specs.Served.{countedServed, patternServed}
 use Rattle.board.specs.Outcomes.{outcome, afterOf}
-use Rattle.board.specs.Whole.{resetRegs, toldPpu}
-use Rattle.board_ppu.specs.Fetch.{countedIrq, countedPpu, countedSplit, countedState, patternPages, ppuFetch}
+use Rattle.board.specs.Whole.{resetRegs, statusTold, detectorTold}
+use Rattle.board_ppu.specs.Fetch.{countedIrq, countedPpu, countedSplit, patternPages, ppuFetch}
 use Rattle.board_ppu.specs.Peeks.{chrWordAt, chrAnswer}
 use Rattle.trace.specs.declared.Call.{Call}
 use Rattle.trace.specs.declared.Call.the-variants.{Clock, CpuRead, CpuWrite, PpuRegister, PpuFetch, Reset, PpuWrite}
@@ -40,23 +41,18 @@ use Rattle.arms.specs.Sides.{chosenAt}
 use Rattle.arms.proofs.Made
 use Rattle.player.proofs.Steps.{Going, stops, goes}
 
--- Two ways that come to the same.
-pub both-ways : {A B : Type 0} {s t : State} → (A → s ≡ t) → (B → s ≡ t) → A ⊎ B → s ≡ t
-both-ways f g (inl x) = f x
-both-ways f g (inr y) = g y
-
 module _ {trace : List ℕ} {all : Left} {m₀ : Mem} {log₀ : List ℕ} {at count : ℕ} {s : State} {m : Mem} {log : List ℕ} (g : Going trace all m₀ log₀ at count s m log) where
   -- The state is in range.
   pub going-ranged : Ranged s
   going-ranged = ranged s (in-range-of s m (g .gate))
 
-  -- At the head after a record that leaves s', m' with an answer.
+  -- At the head after a record that leaves such a state and memory, and such a log.
   abbrev Onward : ℕ → Answer → State → Mem → Type 0
-  Onward next a t n = Going trace all m₀ log₀ next (count + 1) t n (logged log count a (interruptUp (t .irq)))
+  Onward next a t n = (log′ : List ℕ) → log′ ≡ logged log count a (interruptUp (t .irq)) → Going trace all m₀ log₀ next (count + 1) t n log′
 
   module _ {call : Call} {next : ℕ} (found : recordAt trace at ≡ Record call next) where
-    pub clock-arm : call ≡ Clock → Onward next Nothing (withIrq s (clocked (s .irq))) m
-    clock-arm k = goes trace all m₀ log₀ at count s m log call next found Nothing _ m g (rw (k, g .gate) (ap (λ o. afterOf o m) (Made.clock-made s m (g .gate)))) refl
+    pub clock-arm : (d : Detector) → call ≡ Clock → d ≡ clocked (s .irq) → Onward next Nothing (withIrq s d) m
+    clock-arm d k e = goes trace all m₀ log₀ at count s m log call next found Nothing _ m g (rw (k, e, g .gate) (ap (λ o. afterOf o m) (Made.clock-made s m (g .gate)))) refl
 
     pub reset-arm : call ≡ Reset → Onward next Nothing (withRegs s (resetRegs (s .regs))) m
     reset-arm k = goes trace all m₀ log₀ at count s m log call next found Nothing _ m g (rw (k, g .gate) (ap (λ o. afterOf o m) (Made.reset-made s m (g .gate)))) refl
@@ -65,25 +61,30 @@ module _ {trace : List ℕ} {all : Left} {m₀ : Mem} {log₀ : List ℕ} {at co
       pub read-stop : call ≡ CpuRead addr → audioRead (addr .0) ≡ true → ended (Stopped at Audio) s m log ≡ all
       read-stop k t = stops trace all m₀ log₀ at count s m log call next found Audio s m g (rw k (ap (λ o. afterOf o m) (Made.read-refused s m (g .gate) (addr .0) t)))
 
-      pub read-arm : call ≡ CpuRead addr → audioRead (addr .0) ≡ false → Onward next (cpuAnswer s m (addr .0)) (withIrq s (irqRead (s .irq) (addr .0))) m
-      read-arm k f =
-          goes trace all m₀ log₀ at count s m log call next found (cpuAnswer s m (addr .0)) _ m g (rw k (ap (λ o. afterOf o m) (Made.read-made s m (g .gate) (addr .0) f))) (answer-is-given s m (addr .0))
+      pub read-arm : (a : Answer) (d : Detector) → call ≡ CpuRead addr → audioRead (addr .0) ≡ false → a ≡ cpuAnswer s m (addr .0) → d ≡ irqRead (s .irq) (addr .0)
+          → Onward next a (withIrq s d) m
+      read-arm a d k f ea ed =
+          rw ea
+          (goes trace all m₀ log₀ at count s m log call next found (cpuAnswer s m (addr .0)) _ m g (rw (k, ed) (ap (λ o. afterOf o m) (Made.read-made s m (g .gate) (addr .0) f))) (answer-is-given s m (addr .0)))
 
       module _ {v : ℕ} where
-        pub register-arm : call ≡ PpuRegister addr v → Onward next Nothing (toldPpu s (addr .0) v) m
-        register-arm k = goes trace all m₀ log₀ at count s m log call next found Nothing _ m g (rw (k, g .gate) (ap (λ o. afterOf o m) (Made.register-made s m (g .gate) (addr .0) v))) refl
+        pub register-arm : (p : PpuStatus) (d : Detector) → call ≡ PpuRegister addr v → p ≡ statusTold (s .ppu) (addr .0) v → d ≡ detectorTold (s .irq) (addr .0) v
+            → Onward next Nothing (withIrq (withPpu s p) d) m
+        register-arm p d k ep ed =
+            goes trace all m₀ log₀ at count s m log call next found Nothing _ m g (rw (k, ep, ed, g .gate) (ap (λ o. afterOf o m) (Made.register-made s m (g .gate) (addr .0) v))) refl
 
         pub write-stop : call ≡ CpuWrite addr v → audioWrite (addr .0) ≡ true → ended (Stopped at Audio) s m log ≡ all
         write-stop k t = stops trace all m₀ log₀ at count s m log call next found Audio s m g (rw k (Made.write-refused s m (g .gate) (addr .0) v t))
 
-        -- A write, by the state that it leaves.
-        pub write-arm : (t : State) → call ≡ CpuWrite addr v → audioWrite (addr .0) ≡ false → registerWritten s (addr .0) v ≡ t
-            → Onward next Nothing t
-            (pageStored (memOf (m .prg) (m .chr) (m .ram) (m .ciram) (latched (s .regs .«exram_mode») (s .ppu .rendering) (addr .0) v (m .exram)))
+        -- A write, by the state and the memory that it leaves.
+        pub write-arm : (t : State) (n : Mem) → call ≡ CpuWrite addr v → audioWrite (addr .0) ≡ false → registerWritten s (addr .0) v ≡ t
+            → n
+            ≡ pageStored (memOf (m .prg) (m .chr) (m .ram) (m .ciram) (latched (s .regs .«exram_mode») (s .ppu .rendering) (addr .0) v (m .exram)))
             (pageOf (prgWordAt (s .«prg_pages») (addr .0)))
             (addr .0)
-            v)
-        write-arm t k f e = goes trace all m₀ log₀ at count s m log call next found Nothing t _ g (rw k (Made.write-made s m (g .gate) (addr .0) v t f e)) refl
+            v
+            → Onward next Nothing t n
+        write-arm t n k f e en = goes trace all m₀ log₀ at count s m log call next found Nothing t n g (rw (k, en) (Made.write-made s m (g .gate) (addr .0) v t f e)) refl
 
     module _ {addr : PpuAddr} where
       pub fetch-stop : call ≡ PpuFetch addr → counterRefused (s .irq) (s .ppu .«tile_number») (addr .0) ≡ true → ended (Stopped at Counter) s m log ≡ all
@@ -94,21 +95,29 @@ module _ {trace : List ℕ} {all : Left} {m₀ : Mem} {log₀ : List ℕ} {at co
       fetch-made a t k f e =
           goes trace all m₀ log₀ at count s m log call next found a t m g (rw k (ap (λ o. afterOf o m) e)) (rw e at (who-is-refused .fetch-else s m (addr .0) (g .gate) f))
 
-      pub counted-arm : call ≡ PpuFetch addr → counterRefused (s .irq) (s .ppu .«tile_number») (addr .0) ≡ false → countedAt (addr .0) ≡ true
-          → Onward next
-          (countedServed (s .regs) (countedSplit s (addr .0)) (countedIrq s (addr .0) .«in_frame») (countedPpu s (addr .0)) (m .exram) (addr .0) (chrAnswer (s .«chr_pages») m (addr .0)))
-          (countedState s (addr .0))
-          m
-      counted-arm k f t = fetch-made _ _ k f (Made.fetch-counted s m (g .gate) (addr .0) f t)
+      -- A counted fetch, by the groups that it leaves.
+      pub counted-arm : (d : Detector) (p : PpuStatus) (w : VSplit) (a : Answer)
+          → call ≡ PpuFetch addr
+          → counterRefused (s .irq) (s .ppu .«tile_number») (addr .0) ≡ false
+          → countedAt (addr .0) ≡ true
+          → d ≡ countedIrq s (addr .0)
+          → p ≡ countedPpu s (addr .0)
+          → w ≡ countedSplit s (addr .0)
+          → a ≡ countedServed (s .regs) w (d .«in_frame») p (m .exram) (addr .0) (chrAnswer (s .«chr_pages») m (addr .0))
+          → Onward next a (withVsplit (withPpu (withIrq s d) p) w) m
+      counted-arm d p w a k f t ed ep ew ea = rw (ea, ew, ep, ed) (fetch-made _ _ k f (Made.fetch-counted s m (g .gate) (addr .0) f t))
 
       -- Any other fetch, by the set that it chooses and the state with the CHR table that the set shows.
-      pub other-arm : (p : PpuStatus) (t : State) → p ≡ chosenAt (s .ppu) (s .irq .«in_frame») (addr .0) → t ≡ withChrPages s (patternPages s (p .«bg_set»))
-          → call ≡ PpuFetch addr → counterRefused (s .irq) (s .ppu .«tile_number») (addr .0) ≡ false → countedAt (addr .0) ≡ false
-          → Onward next
-          (pick (ltb (addr .0) 0x2000) (patternServed (t .regs) (t .vsplit) (t .irq) p (m .exram) (m .chr) (addr .0) (chrAnswer (t .«chr_pages») m (addr .0))) (chrAnswer (t .«chr_pages») m (addr .0)))
-          (withPpu t p)
-          m
-      other-arm p t ep et k f n = rw (et, ep) (fetch-made _ _ k f (Made.fetch-other s m (g .gate) (addr .0) f n))
+      pub other-arm : (p : PpuStatus) (t : State) (a : Answer)
+          → call ≡ PpuFetch addr
+          → counterRefused (s .irq) (s .ppu .«tile_number») (addr .0) ≡ false
+          → countedAt (addr .0) ≡ false
+          → p ≡ chosenAt (s .ppu) (s .irq .«in_frame») (addr .0)
+          → t ≡ withChrPages s (patternPages s (p .«bg_set»))
+          → a
+          ≡ pick (ltb (addr .0) 0x2000) (patternServed (t .regs) (t .vsplit) (t .irq) p (m .exram) (m .chr) (addr .0) (chrAnswer (t .«chr_pages») m (addr .0))) (chrAnswer (t .«chr_pages») m (addr .0))
+          → Onward next a (withPpu t p) m
+      other-arm p t a k f n ep et ea = rw (ea, et, ep) (fetch-made _ _ k f (Made.fetch-other s m (g .gate) (addr .0) f n))
 
-      pub ppu-write-arm : {v : ℕ} → call ≡ PpuWrite addr v → Onward next Nothing s (pageStored m (pageOf (chrWordAt (s .«chr_pages») (addr .0))) (addr .0) v)
-      ppu-write-arm {v} k = goes trace all m₀ log₀ at count s m log call next found Nothing s _ g (rw k (Made.ppu-write-made s m (g .gate) (addr .0) v)) refl
+      pub ppu-write-arm : {v : ℕ} (n : Mem) → call ≡ PpuWrite addr v → n ≡ pageStored m (pageOf (chrWordAt (s .«chr_pages») (addr .0))) (addr .0) v → Onward next Nothing s n
+      ppu-write-arm {v} n k en = goes trace all m₀ log₀ at count s m log call next found Nothing s n g (rw (k, en) (Made.ppu-write-made s m (g .gate) (addr .0) v)) refl

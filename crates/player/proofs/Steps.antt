@@ -76,15 +76,6 @@ pub record Going (trace : List ℕ) (all : Left) (m₀ : Mem) (log₀ : List ℕ
   pub log-size : length log ≡ length log₀
   pub rest : playedFrom fuel trace at count s m log ≡ all
 
--- The loop's invariant: that, and that the lent buffers have the lengths that they had.
-abbrev pub Kept : List ℕ → Left → Mem → List ℕ → ℕ → ℕ → State → Mem → List ℕ → Type 0
-Kept trace all m₀ log₀ at count s m log =
-    Going trace all m₀ log₀ at count s m log
-    × ((length (m .chr) ≡ length (m₀ .chr)) × ((length (m .ram) ≡ length (m₀ .ram)) × ((length (m .ciram) ≡ length (m₀ .ciram)) × ((length (m .exram) ≡ length (m₀ .exram)) × (length log ≡ length log₀)))))
-
-pub kept : {trace : List ℕ} {all : Left} {m₀ : Mem} {log₀ : List ℕ} {at count : ℕ} {s : State} {m : Mem} {log : List ℕ} → Going trace all m₀ log₀ at count s m log → Kept trace all m₀ log₀ at count s m log
-kept g = (g, (g .sizes .chr, (g .sizes .ram, (g .sizes .ciram, (g .sizes .exram, g .log-size)))))
-
 -- At the head no more records were counted than a trace has bytes, and one more is a number; the record that is found there brings the end nearer.
 module _ {trace : List ℕ} {all : Left} {m₀ : Mem} {log₀ : List ℕ} {at count : ℕ} {s : State} {m : Mem} {log : List ℕ} (g : Going trace all m₀ log₀ at count s m log) where
   pub few : count ≤ 8192
@@ -95,10 +86,6 @@ module _ {trace : List ℕ} {all : Left} {m₀ : Mem} {log₀ : List ℕ} {at co
 
 pub nearer : (trace : List ℕ) (at : ℕ) (call : Call) (next : ℕ) → recordAt trace at ≡ Record call next → length trace - next < length trace - at
 nearer trace at call next found = let sound = record-sound trace at call next found in omega (arith, sound .onward, sound .inside)
-
--- Buffers that are equal are as good.
-pub onto : {trace : List ℕ} {all : Left} {m₀ : Mem} {log₀ : List ℕ} {at count : ℕ} {s : State} {m n : Mem} {log : List ℕ} → m ≡ n → Going trace all m₀ log₀ at count s n log → Going trace all m₀ log₀ at count s m log
-onto e g = rw e g
 
 pub begins : (trace : List ℕ) (s : State) (m : Mem) (log : List ℕ) → length trace ≤ 8192 → gateMem s m ≡ Open → Going trace (played s trace m log) m log 0 0 s m log
 begins trace s m log short h =
@@ -160,7 +147,7 @@ module _ (trace : List ℕ) (all : Left) (m₀ : Mem) (log₀ : List ℕ) (at co
           rest = sym (accepted-goes-on a _ _ y) ∙ (rw (found, p) at r);
         }
 
-    -- An accepted call goes on from what it leaves.
+    -- An accepted call goes on from what it leaves, with its answer in the log.
     pub goes : (a : Answer) (t : State) (n : Mem) → Going trace all m₀ log₀ at count s m log → called call s m ≡ afterOf (outcome a t) n → Given a
-        → Going trace all m₀ log₀ next (count + 1) t n (logged log count a (interruptUp (t .irq)))
-    goes a t n g = goes-by a t n (g .fuel) (g .enough) g (g .rest)
+        → (log′ : List ℕ) → log′ ≡ logged log count a (interruptUp (t .irq)) → Going trace all m₀ log₀ next (count + 1) t n log′
+    goes a t n g p y log′ e = rw e (goes-by a t n (g .fuel) (g .enough) g (g .rest) p y)

@@ -1,201 +1,299 @@
-use Rattle.arms.proofs.Made.{pages-changed, pages-same}
-use Rattle.player.proofs.Arms.{both-ways}
-use Rattle.state.specs.With.{withChrPages}
-use Rattle.arms.proofs.Idle.{write-idle, write-prg, write-rest-as}
-use Rattle.player.proofs.Steps.{Kept, kept, few, one-more, nearer, onto, begins, ends, unreadable}
-use Rattle.board_ppu.specs.Peeks.{chrAnswer}
-use Rattle.cpu.specs.Reads.{cpuAnswer}
-use Rattle.state.proofs.SizeLaws.{lengths-say}
-use Rattle.scanline.proofs.RangeLaws.{ranges-kept}
-use borrow.Author.Tests.{not-true}
-use borrow.Author.Needs.{needs}
-use native.Mathlib.Omega.{arith}
-use mathlib.Core.Path.{sym, _∙_, ap}
+-- `player::plays::play` meets its contract: the loop keeps what Steps states at its head, and each arm goes on, or stops, as Arms has it.
+-- The facts are told by the places of the code that they hold at; a place is reached from a later one by `before`.
 use Prim.Native.Nat.{_-_}
-use Rattle.player.proofs.Arms.{going-ranged, clock-arm, reset-arm, read-stop, read-arm, register-arm, write-stop, write-arm, fetch-stop, counted-arm, other-arm, ppu-write-arm}
+use mathlib.Core.Logic.{inl, inr}
+use mathlib.Core.Path.{_≡_, sym, _∙_}
+use native.Mathlib.Omega.{arith}
+use borrow.Author.Needs.{needs}
+use borrow.Author.Tests.{not-true}
 use lib.ListN.{length}
-use Rattle.memory.specs.Bytes.{memOf}
+use Rattle.memory.specs.Bytes.{Mem, memOf}
+use Rattle.scanline.proofs.RangeLaws.{ranges-kept}
+use Rattle.state.specs.With.{withChrPages}
+use Rattle.state.proofs.SizeLaws.{lengths-say}
+use Rattle.cpu.specs.Reads.{cpuAnswer}
+use Rattle.board_ppu.specs.Fetch.{patternPages}
+use Rattle.board_ppu.specs.Peeks.{chrAnswer}
+use Rattle.trace.specs.declared.Found.the-variants.{Record}
+use Rattle.trace.specs.Records.{recordAt}
+use Rattle.arms.proofs.Idle.{prgLeft, restLeft, write-idle, write-prg, write-rest}
+use Rattle.arms.proofs.Made.{pages-changed, pages-same}
 use Rattle.player.specs.Replay.{played}
+use Rattle.player.proofs.Arms.{going-ranged, clock-arm, reset-arm, read-stop, read-arm, register-arm, write-stop, write-arm}
+use Rattle.player.proofs.Arms.{fetch-stop, counted-arm, other-arm, ppu-write-arm}
+use Rattle.player.proofs.Steps.{Going, few, one-more, nearer, begins, ends, unreadable}
 use Rattle.player.proofs.plays.play.Statement.{statement}
 use Rattle.player.proofs.plays.play.Tie as tie
 
 abbrev Inv-loop : tie.InvT-loop
 Inv-loop trace prg chr₀ ram₀ ciram₀ exram₀ log₀ t₀ at₀ count₀ chr ram ciram exram log t at count =
-    Kept trace (played t₀ trace (memOf prg chr₀ ram₀ ciram₀ exram₀) log₀) (memOf prg chr₀ ram₀ ciram₀ exram₀) log₀ at count t (memOf prg chr ram ciram exram) log
+    Going trace (played t₀ trace (memOf prg chr₀ ram₀ ciram₀ exram₀) log₀) (memOf prg chr₀ ram₀ ciram₀ exram₀) log₀ at count t (memOf prg chr ram ciram exram) log
 
 abbrev μ-loop : tie.MeasureT-loop
 μ-loop trace prg chr₀ ram₀ ciram₀ exram₀ log₀ t₀ at₀ count₀ chr ram ciram exram log t at count = length trace - at
 
 loop-holds : tie.Need-loop-holds Inv-loop μ-loop
-loop-holds c = kept (begins _ _ _ _ (c .before .before .before .before .before .before .before .pre .0) (c .before .before .before .before .before .before .before .pre .1))
+loop-holds c = let p = c .before .before .before .before .before .before .before .pre in begins _ _ _ _ (p .0) (p .1)
 
-clock-requires : tie.Need-clock-requires Inv-loop μ-loop
-clock-requires c κs = ranges-kept .idle-fits _ (going-ranged (c .before .before .before .before .before .before .before .loop .inv .0) .detector)
+-- Where a record was found: the loop's head before it, what holds there, and that the record stands there.
+abbrev Found : Type 0
+Found = tie.After-known-told2 Inv-loop μ-loop
 
-log-record-requires : tie.Need-log-record-requires Inv-loop μ-loop
-log-record-requires c κs = few (c .before .before .before .before .before .before .before .before .before .loop .inv .0)
+abbrev head : Found → tie.At-loop Inv-loop μ-loop
+head r = r .before .before .before .before
 
-add-count : tie.Need-add-count Inv-loop μ-loop
-add-count c = one-more (c .before .before .before .before .before .before .before .before .before .before .before .before .loop .inv .0)
+abbrev start : Found → tie.Start Inv-loop μ-loop
+start r = head r .before .before .before .before .before .before .before .before
 
-loop-less : tie.Need-loop-less Inv-loop μ-loop
-loop-less c = nearer _ _ _ _ (sym (c .before .before .before .before .before .before .before .before .before .before .before .record-at .ensures) ∙ c .before .before .before .before .before .before .before .before .before .found2 .given .1)
+going : (r : Found) →
+    let a = start r .args in let l = head r .loop in let m = memOf (a .prg .now) (a .chr .now) (a .ram .now) (a .ciram .now) (a .exram .now) in
+    Going (a .trace .now) (played (a .s) (a .trace .now) m (a .log .now)) m (a .log .now)
+    (l .at) (l .count) (l .t) (memOf (a .prg .now) (l .chr) (l .ram) (l .ciram) (l .exram)) (l .log)
+going r = head r .loop .inv
 
+stands : (r : Found) → let f = r .before .found2 .given in recordAt (start r .args .trace .now) (head r .loop .at) ≡ Record (f .0 .0) (f .0 .1 .0)
+stands r = sym (r .before .before .before .record-at .ensures) ∙ r .before .found2 .given .1
+
+-- A clock.
 loop-again : tie.Need-loop-again Inv-loop μ-loop
-loop-again c = kept (rw (c .before .before .log-record .ensures, c .before .before .before .before .clock .ensures) (clock-arm (c .before .before .before .before .before .before .before .before .before .before .before .before .loop .inv .0) (sym (c .before .before .before .before .before .before .before .before .before .before .before .record-at .ensures) ∙ c .before .before .before .before .before .before .before .before .before .found2 .given .1) (c .before .before .before .before .before .before .enum-told2 .given .1)))
+loop-again c =
+    let d = c .before .before .before .before in let w = c .before .before .log-record in let r = c .before .before .before .before .before .before .before .before in
+    clock-arm (going r) (stands r) (d .clock .result) (d .before .before .enum-told2 .given .1) (d .clock .ensures) (w .last .0) (w .ensures)
 
-log-record-requires-2 : tie.Need-log-record-requires-2 Inv-loop μ-loop
-log-record-requires-2 c κs = few (c .before .before .before .before .before .before .before .before .before .before .before .before .before .before .before .before .before .before .before .before .before .before .before .loop .inv .0)
+-- A CPU read; past the test for the audio registers.
+abbrev read-tested : tie.After-log-record-arg2 Inv-loop μ-loop → tie.Else1 Inv-loop μ-loop
+read-tested c = c .before .before .before .before .before .before .before .before .before .before .before .before .before .before
 
-add-count-2 : tie.Need-add-count-2 Inv-loop μ-loop
-add-count-2 c = one-more (c .before .before .before .before .before .before .before .before .before .before .before .before .before .before .before .before .before .before .before .before .before .before .before .before .before .before .loop .inv .0)
-
-loop-less-2 : tie.Need-loop-less-2 Inv-loop μ-loop
-loop-less-2 c = nearer _ _ _ _ (sym (c .before .before .before .before .before .before .before .before .before .before .before .before .before .before .before .before .before .before .before .before .before .before .before .before .before .record-at .ensures) ∙ c .before .before .before .before .before .before .before .before .before .before .before .before .before .before .before .before .before .before .before .before .before .before .before .found2 .given .1)
+abbrev read-found : tie.After-slice-known7 Inv-loop μ-loop → Found
+read-found c = read-tested (c .before .before .before) .before .before .before .before .before
 
 loop-again-2 : tie.Need-loop-again-2 Inv-loop μ-loop
 unfolding cpuAnswer
-loop-again-2 c = kept (rw (c .before .before .log-record2 .ensures, c .before .before .before .before .before .before .read .ensures, c .before .before .before .before .irq-read .ensures) (read-arm (c .before .before .before .before .before .before .before .before .before .before .before .before .before .before .before .before .before .before .before .before .before .before .before .before .before .before .loop .inv .0) (sym (c .before .before .before .before .before .before .before .before .before .before .before .before .before .before .before .before .before .before .before .before .before .before .before .before .before .record-at .ensures) ∙ c .before .before .before .before .before .before .before .before .before .before .before .before .before .before .before .before .before .before .before .before .before .before .before .found2 .given .1) (c .before .before .before .before .before .before .before .before .before .before .before .before .before .before .before .before .before .before .before .before .call .given .1) (sym (c .before .before .before .before .before .before .before .before .before .before .before .before .before .before .before .before .before .before .audio-read .ensures) ∙ c .before .before .before .before .before .before .before .before .before .before .before .before .before .before .before .before .before .if1 .left)))
+loop-again-2 c =
+    let d = c .before .before .before .before in let a = d .before .before .read in let w = c .before .before .log-record2 in
+    let e = read-tested (c .before .before .before) in let r = read-found c in
+    read-arm (going r) (stands r) (a .result) (d .irq-read .result) (e .before .before .before .call .given .1) (sym (e .before .audio-read .ensures) ∙ e .if1 .left)
+    (a .ensures) (d .irq-read .ensures) (w .last .0) (w .ensures)
 
-log-record-requires-3 : tie.Need-log-record-requires-3 Inv-loop μ-loop
-log-record-requires-3 c κs = few (c .before .before .before .before .before .before .before .before .before .before .before .before .before .before .before .before .before .before .before .before .before .before .before .before .before .before .before .loop .inv .0)
+returns-3 : tie.Need-returns-3 Inv-loop μ-loop
+returns-3 c =
+    let e = c .before in let r = c .before .before .before .before .before in
+    read-stop (going r) (stands r) (e .before .before .call .given .1) (sym (e .audio-read .ensures) ∙ c .if1 .taken)
 
-add-count-3 : tie.Need-add-count-3 Inv-loop μ-loop
-add-count-3 c = one-more (c .before .before .before .before .before .before .before .before .before .before .before .before .before .before .before .before .before .before .before .before .before .before .before .before .before .before .before .before .before .before .loop .inv .0)
+-- A CPU write: past the test for the audio registers, past the bytes, and past the registers.
+abbrev write-tested : tie.After-store Inv-loop μ-loop → tie.Else2 Inv-loop μ-loop
+write-tested c = c .before .before .before .before .before .before
 
-loop-less-3 : tie.Need-loop-less-3 Inv-loop μ-loop
-loop-less-3 c = nearer _ _ _ _ (sym (c .before .before .before .before .before .before .before .before .before .before .before .before .before .before .before .before .before .before .before .before .before .before .before .before .before .before .before .before .before .record-at .ensures) ∙ c .before .before .before .before .before .before .before .before .before .before .before .before .before .before .before .before .before .before .before .before .before .before .before .before .before .before .before .found2 .given .1)
+abbrev stored : tie.After-is-within Inv-loop μ-loop → tie.After-store Inv-loop μ-loop
+stored c = c .before .before .before .before .before .before .before .before .before
 
+abbrev written : tie.After-store Inv-loop μ-loop → Mem
+written c =
+    let l = c .store .last in
+    memOf (start (write-tested c .before .before .before .before .before) .args .prg .now) (l .0) (l .1 .0) (l .1 .1 .0) (l .1 .1 .1 .0)
+
+abbrev write-found : tie.After-is-within Inv-loop μ-loop → Found
+write-found c = write-tested (stored c) .before .before .before .before .before
+
+returns-4 : tie.Need-returns-4 Inv-loop μ-loop
+returns-4 c =
+    let e = c .before in let r = c .before .before .before .before .before in
+    write-stop (going r) (stands r) (e .before .before .call2 .given .1) (sym (e .audio-write .ensures) ∙ c .if2 .taken)
+
+-- No register is written.
 loop-again-3 : tie.Need-loop-again-3 Inv-loop μ-loop
-loop-again-3 c = kept (rw (c .before .before .log-record3 .ensures) (onto (c .before .before .before .before .before .before .before .before .before .before .before .before .before .before .before .store .ensures _) (write-arm (c .before .before .before .before .before .before .before .before .before .before .before .before .before .before .before .before .before .before .before .before .before .before .before .before .before .before .before .before .before .before .loop .inv .0) (sym (c .before .before .before .before .before .before .before .before .before .before .before .before .before .before .before .before .before .before .before .before .before .before .before .before .before .before .before .before .before .record-at .ensures) ∙ c .before .before .before .before .before .before .before .before .before .before .before .before .before .before .before .before .before .before .before .before .before .before .before .before .before .before .before .found2 .given .1) _ (c .before .before .before .before .before .before .before .before .before .before .before .before .before .before .before .before .before .before .before .before .before .before .before .before .call2 .given .1) (sym (c .before .before .before .before .before .before .before .before .before .before .before .before .before .before .before .before .before .before .before .before .before .before .audio-write .ensures) ∙ c .before .before .before .before .before .before .before .before .before .before .before .before .before .before .before .before .before .before .before .before .before .if2 .left) (write-idle _ (sym (c .before .before .before .before .before .before .is-within .ensures) ∙ not-true _ (c .before .before .before .before .before .if3 .taken)) _ _))))
+loop-again-3 c =
+    let w = c .before .before .log-record3 in let t = c .before .before .before .before .before in let b = t .before in
+    let d = stored b in let e = write-tested d in let k = e .before .before .before .call2 .given in let r = write-found b in let s = head r .loop .t in
+    write-arm (going r) (stands r) s (written d) (k .1) (sym (e .before .audio-write .ensures) ∙ e .if2 .left)
+    (write-idle (k .0 .0 .0) (sym (b .is-within .ensures) ∙ not-true _ (t .if3 .taken)) s (k .0 .1 .0))
+    (d .store .ensures _) (w .last .0) (w .ensures)
+
+-- A register is written.
+abbrev within : tie.After-maps-prg Inv-loop μ-loop → tie.After-is-within Inv-loop μ-loop
+within c = c .before .before .before .before .before
 
 map-prg-requires : tie.Need-map-prg-requires Inv-loop μ-loop
-map-prg-requires c κs = let t = lengths-say _ (going-ranged (c .before .before .before .before .before .before .before .before .before .before .before .before .before .before .before .before .before .before .before .before .before .before .before .before .before .before .before .before .before .before .before .before .before .loop .inv .0) .lengths) in (omega (arith, t .prg-whole), t .ram-whole)
+map-prg-requires c κs =
+    let t = lengths-say _ (going-ranged (going (write-found (within (c .before .before .before .before)))) .lengths) in
+    (omega (arith, t .prg-whole), t .ram-whole)
 
-log-record-requires-4 : tie.Need-log-record-requires-4 Inv-loop μ-loop
-log-record-requires-4 c κs = few (c .before .before .before .before .before .before .before .before .before .before .before .before .before .before .before .before .before .before .before .before .before .before .before .before .before .before .before .before .before .before .before .before .before .before .before .before .loop .inv .0)
-
-add-count-4 : tie.Need-add-count-4 Inv-loop μ-loop
-add-count-4 c = one-more (c .before .before .before .before .before .before .before .before .before .before .before .before .before .before .before .before .before .before .before .before .before .before .before .before .before .before .before .before .before .before .before .before .before .before .before .before .before .before .before .loop .inv .0)
-
-loop-less-4 : tie.Need-loop-less-4 Inv-loop μ-loop
-loop-less-4 c = nearer _ _ _ _ (sym (c .before .before .before .before .before .before .before .before .before .before .before .before .before .before .before .before .before .before .before .before .before .before .before .before .before .before .before .before .before .before .before .before .before .before .before .before .before .before .record-at .ensures) ∙ c .before .before .before .before .before .before .before .before .before .before .before .before .before .before .before .before .before .before .before .before .before .before .before .before .before .before .before .before .before .before .before .before .before .before .before .before .found2 .given .1)
+abbrev prg-found : tie.After-slice-known13 Inv-loop μ-loop → Found
+prg-found c = write-found (within (c .before .before .before .before .before .before .before .before .before .before))
 
 loop-again-4 : tie.Need-loop-again-4 Inv-loop μ-loop
-loop-again-4 c = kept (rw (c .before .before .log-record4 .ensures, c .before .before .before .before .before .map-prg .ensures, c .before .before .before .before .before .before .before .prg-banks-after .ensures, c .before .before .before .before .before .before .before .before .before .before .before .write .ensures) (onto (c .before .before .before .before .before .before .before .before .before .before .before .before .before .before .before .before .before .before .before .before .before .before .before .before .store .ensures _) (write-arm (c .before .before .before .before .before .before .before .before .before .before .before .before .before .before .before .before .before .before .before .before .before .before .before .before .before .before .before .before .before .before .before .before .before .before .before .before .before .before .before .loop .inv .0) (sym (c .before .before .before .before .before .before .before .before .before .before .before .before .before .before .before .before .before .before .before .before .before .before .before .before .before .before .before .before .before .before .before .before .before .before .before .before .before .before .record-at .ensures) ∙ c .before .before .before .before .before .before .before .before .before .before .before .before .before .before .before .before .before .before .before .before .before .before .before .before .before .before .before .before .before .before .before .before .before .before .before .before .found2 .given .1) _ (c .before .before .before .before .before .before .before .before .before .before .before .before .before .before .before .before .before .before .before .before .before .before .before .before .before .before .before .before .before .before .before .before .before .call2 .given .1) (sym (c .before .before .before .before .before .before .before .before .before .before .before .before .before .before .before .before .before .before .before .before .before .before .before .before .before .before .before .before .before .before .before .audio-write .ensures) ∙ c .before .before .before .before .before .before .before .before .before .before .before .before .before .before .before .before .before .before .before .before .before .before .before .before .before .before .before .before .before .before .if2 .left) (write-prg _ _ _ (sym (c .before .before .before .before .before .before .before .before .before .before .maps-prg .ensures) ∙ c .before .before .before .before .before .before .before .before .before .if4 .taken)))))
+loop-again-4 c =
+    let w = c .before .before .log-record4 in let pages = c .before .before .before .before .before .map-prg in
+    let p = c .before .before .before .before .before .before .before in let banks = p .prg-banks-after in
+    let g = p .before .before .before in let regs = g .before .write in let b = within g in
+    let d = stored b in let e = write-tested d in let k = e .before .before .before .call2 .given in let r = write-found b in let s = head r .loop .t in
+    write-arm (going r) (stands r) (prgLeft s (regs .result) (banks .result) (pages .result)) (written d)
+    (k .1) (sym (e .before .audio-write .ensures) ∙ e .if2 .left)
+    (write-prg s (k .0 .0 .0) (k .0 .1 .0) _ _ _ (sym (g .maps-prg .ensures) ∙ p .before .before .if4 .taken) (regs .ensures) (banks .ensures) (pages .ensures))
+    (d .store .ensures _) (w .last .0) (w .ensures)
 
-log-record-requires-5 : tie.Need-log-record-requires-5 Inv-loop μ-loop
-log-record-requires-5 c κs = few (c .before .before .before .before .before .before .before .before .before .before .before .before .before .before .before .before .before .before .before .before .before .before .before .before .before .before .before .before .before .before .before .before .before .before .before .before .before .before .before .before .before .before .before .before .before .loop .inv .0)
+abbrev rest-mapped : tie.After-log-record-arg7 Inv-loop μ-loop → tie.After-maps-prg Inv-loop μ-loop
+rest-mapped c = c .before .before .before .before .before .before .before .before .before .before .before .before .before .before .before .before
 
-add-count-5 : tie.Need-add-count-5 Inv-loop μ-loop
-add-count-5 c = one-more (c .before .before .before .before .before .before .before .before .before .before .before .before .before .before .before .before .before .before .before .before .before .before .before .before .before .before .before .before .before .before .before .before .before .before .before .before .before .before .before .before .before .before .before .before .before .before .before .before .loop .inv .0)
-
-loop-less-5 : tie.Need-loop-less-5 Inv-loop μ-loop
-loop-less-5 c = nearer _ _ _ _ (sym (c .before .before .before .before .before .before .before .before .before .before .before .before .before .before .before .before .before .before .before .before .before .before .before .before .before .before .before .before .before .before .before .before .before .before .before .before .before .before .before .before .before .before .before .before .before .before .before .record-at .ensures) ∙ c .before .before .before .before .before .before .before .before .before .before .before .before .before .before .before .before .before .before .before .before .before .before .before .before .before .before .before .before .before .before .before .before .before .before .before .before .before .before .before .before .before .before .before .before .before .found2 .given .1)
+abbrev rest-found : tie.After-slice-known14 Inv-loop μ-loop → Found
+rest-found c = write-found (within (rest-mapped (c .before .before .before)))
 
 loop-again-5 : tie.Need-loop-again-5 Inv-loop μ-loop
-loop-again-5 c = kept (rw (c .before .before .log-record5 .ensures) (onto (c .before .before .before .before .before .before .before .before .before .before .before .before .before .before .before .before .before .before .before .before .before .before .before .before .before .before .before .before .before .before .before .before .before .store .ensures _) (write-arm (c .before .before .before .before .before .before .before .before .before .before .before .before .before .before .before .before .before .before .before .before .before .before .before .before .before .before .before .before .before .before .before .before .before .before .before .before .before .before .before .before .before .before .before .before .before .before .before .before .loop .inv .0) (sym (c .before .before .before .before .before .before .before .before .before .before .before .before .before .before .before .before .before .before .before .before .before .before .before .before .before .before .before .before .before .before .before .before .before .before .before .before .before .before .before .before .before .before .before .before .before .before .before .record-at .ensures) ∙ c .before .before .before .before .before .before .before .before .before .before .before .before .before .before .before .before .before .before .before .before .before .before .before .before .before .before .before .before .before .before .before .before .before .before .before .before .before .before .before .before .before .before .before .before .before .found2 .given .1) _ (c .before .before .before .before .before .before .before .before .before .before .before .before .before .before .before .before .before .before .before .before .before .before .before .before .before .before .before .before .before .before .before .before .before .before .before .before .before .before .before .before .before .before .call2 .given .1) (sym (c .before .before .before .before .before .before .before .before .before .before .before .before .before .before .before .before .before .before .before .before .before .before .before .before .before .before .before .before .before .before .before .before .before .before .before .before .before .before .before .before .audio-write .ensures) ∙ c .before .before .before .before .before .before .before .before .before .before .before .before .before .before .before .before .before .before .before .before .before .before .before .before .before .before .before .before .before .before .before .before .before .before .before .before .before .before .before .if2 .left) (write-rest-as _ _ _ _ _ _ _ _ _ _ _ (sym (c .before .before .before .before .before .before .before .before .before .before .before .before .before .before .before .before .before .before .before .maps-prg .ensures) ∙ c .before .before .before .before .before .before .before .before .before .before .before .before .before .before .before .before .before .before .if4 .left) (c .before .before .before .before .before .before .before .before .before .before .before .before .before .before .before .before .before .before .before .before .write .ensures) (c .before .before .before .before .before .before .before .before .before .before .before .before .before .before .split-after .ensures) (c .before .before .before .before .before .before .before .before .before .before .before .before .irq-after .ensures) (c .before .before .before .before .before .before .before .before .before .before .before .before .before .before .before .before .ppu-after .ensures) (c .before .before .before .before .before .before .before .before .before .before .mirroring-after .ensures) (c .before .before .before .before .before .before .before .before .chr-banks-after .ensures) (c .before .before .before .before .before .before .chr-pages-after .ensures) (c .before .before .before .before .exram-word .ensures)))))
+loop-again-5 c =
+    let w = c .before .before .log-record5 in let x = c .before .before .before .before .exram-word in
+    let p = c .before .before .before .before .before .before in let pages = p .chr-pages-after in
+    let banks = p .before .before .chr-banks-after in let mirroring = p .before .before .before .before .mirroring-after in
+    let i = p .before .before .before .before .before .before in let irq = i .irq-after in
+    let split = i .before .before .split-after in let ppu = i .before .before .before .before .ppu-after in
+    let g = rest-mapped (c .before .before .before) in let regs = g .before .write in let b = within g in
+    let d = stored b in let e = write-tested d in let k = e .before .before .before .call2 .given in let r = write-found b in let s = head r .loop .t in
+    write-arm (going r) (stands r)
+    (restLeft s (regs .result) (split .result) (irq .result) (ppu .result) (mirroring .result) (banks .result) (pages .result) (x .result)) (written d)
+    (k .1) (sym (e .before .audio-write .ensures) ∙ e .if2 .left)
+    (write-rest s (k .0 .0 .0) (k .0 .1 .0) _ _ _ _ _ _ _ _ (sym (g .maps-prg .ensures) ∙ i .before .before .before .before .before .before .if4 .left)
+    (regs .ensures) (split .ensures) (irq .ensures) (ppu .ensures) (mirroring .ensures) (banks .ensures) (pages .ensures) (x .ensures))
+    (d .store .ensures _) (w .last .0) (w .ensures)
 
-log-record-requires-6 : tie.Need-log-record-requires-6 Inv-loop μ-loop
-log-record-requires-6 c κs = few (c .before .before .before .before .before .before .before .before .before .before .before .before .loop .inv .0)
-
-add-count-6 : tie.Need-add-count-6 Inv-loop μ-loop
-add-count-6 c = one-more (c .before .before .before .before .before .before .before .before .before .before .before .before .before .before .before .loop .inv .0)
-
-loop-less-6 : tie.Need-loop-less-6 Inv-loop μ-loop
-loop-less-6 c = nearer _ _ _ _ (sym (c .before .before .before .before .before .before .before .before .before .before .before .before .before .before .record-at .ensures) ∙ c .before .before .before .before .before .before .before .before .before .before .before .before .found2 .given .1)
-
+-- A write of a PPU register.
 loop-again-6 : tie.Need-loop-again-6 Inv-loop μ-loop
-loop-again-6 c = kept (rw (c .before .before .log-record6 .ensures, c .before .before .before .before .before .before .status-told .ensures, c .before .before .before .before .detector-told .ensures) (register-arm (c .before .before .before .before .before .before .before .before .before .before .before .before .before .before .before .loop .inv .0) (sym (c .before .before .before .before .before .before .before .before .before .before .before .before .before .before .record-at .ensures) ∙ c .before .before .before .before .before .before .before .before .before .before .before .before .found2 .given .1) (c .before .before .before .before .before .before .before .before .before .call3 .given .1)))
+loop-again-6 c =
+    let w = c .before .before .log-record6 in let d = c .before .before .before .before in let p = d .before .before in
+    let r = c .before .before .before .before .before .before .before .before .before .before .before in
+    register-arm (going r) (stands r) (p .status-told .result) (d .detector-told .result) (p .before .before .before .call3 .given .1)
+    (p .status-told .ensures) (d .detector-told .ensures) (w .last .0) (w .ensures)
+
+-- A PPU fetch: past the test for the counters, and a counted one.
+abbrev fetch-found : tie.Else5 Inv-loop μ-loop → Found
+fetch-found c = c .before .before .before .before .before .before
+
+returns-5 : tie.Need-returns-5 Inv-loop μ-loop
+returns-5 c =
+    let e = c .before in let r = c .before .before .before .before .before .before in
+    fetch-stop (going r) (stands r) (e .before .before .before .call4 .given .1) (sym (e .counter-refused .ensures) ∙ c .if5 .taken)
 
 count-fetch-requires : tie.Need-count-fetch-requires Inv-loop μ-loop
-count-fetch-requires c κs = ((going-ranged (c .before .before .before .before .before .before .before .before .before .before .before .before .before .before .before .before .loop .inv .0)) .detector, ((going-ranged (c .before .before .before .before .before .before .before .before .before .before .before .before .before .before .before .before .loop .inv .0)) .tiles, (sym (c .before .before .before .before .before .counted .ensures) ∙ c .before .before .before .before .if6 .taken, sym (c .before .before .before .before .before .before .before .counter-refused .ensures) ∙ c .before .before .before .before .before .before .if5 .left)))
+count-fetch-requires c κs =
+    let t = c .before .before .before .before in let e = t .before .before in let k = going-ranged (going (fetch-found e)) in
+    (k .detector, (k .tiles, (sym (t .before .counted .ensures) ∙ t .if6 .taken, sym (e .before .counter-refused .ensures) ∙ e .if5 .left)))
 
-log-record-requires-7 : tie.Need-log-record-requires-7 Inv-loop μ-loop
-log-record-requires-7 c κs = few (c .before .before .before .before .before .before .before .before .before .before .before .before .before .before .before .before .before .before .before .before .before .before .before .before .before .before .before .before .loop .inv .0)
+abbrev counted : tie.After-log-record-arg9 Inv-loop μ-loop → tie.Then6 Inv-loop μ-loop
+counted c = c .before .before .before .before .before .before .before .before .before .before .before .before .before .before .before .before
 
-add-count-7 : tie.Need-add-count-7 Inv-loop μ-loop
-add-count-7 c = one-more (c .before .before .before .before .before .before .before .before .before .before .before .before .before .before .before .before .before .before .before .before .before .before .before .before .before .before .before .before .before .before .before .loop .inv .0)
-
-loop-less-7 : tie.Need-loop-less-7 Inv-loop μ-loop
-loop-less-7 c = nearer _ _ _ _ (sym (c .before .before .before .before .before .before .before .before .before .before .before .before .before .before .before .before .before .before .before .before .before .before .before .before .before .before .before .before .before .before .record-at .ensures) ∙ c .before .before .before .before .before .before .before .before .before .before .before .before .before .before .before .before .before .before .before .before .before .before .before .before .before .before .before .before .found2 .given .1)
+abbrev counted-found : tie.After-slice-known16 Inv-loop μ-loop → Found
+counted-found c = fetch-found (counted (c .before .before .before) .before .before)
 
 loop-again-7 : tie.Need-loop-again-7 Inv-loop μ-loop
 unfolding chrAnswer
-loop-again-7 c = kept (rw (c .before .before .log-record7 .ensures, c .before .before .before .before .counted-answer .ensures) (rw (c .before .before .before .before .before .before .before .before .before .before .before .before .before .before .count-fetch .ensures .0, c .before .before .before .before .before .before .before .before .before .before .before .before .before .before .count-fetch .ensures .1 .0, c .before .before .before .before .before .before .before .before .before .before .before .before .before .before .count-fetch .ensures .1 .1) (counted-arm (c .before .before .before .before .before .before .before .before .before .before .before .before .before .before .before .before .before .before .before .before .before .before .before .before .before .before .before .before .before .before .before .loop .inv .0) (sym (c .before .before .before .before .before .before .before .before .before .before .before .before .before .before .before .before .before .before .before .before .before .before .before .before .before .before .before .before .before .before .record-at .ensures) ∙ c .before .before .before .before .before .before .before .before .before .before .before .before .before .before .before .before .before .before .before .before .before .before .before .before .before .before .before .before .found2 .given .1) (c .before .before .before .before .before .before .before .before .before .before .before .before .before .before .before .before .before .before .before .before .before .before .before .before .before .call4 .given .1) (sym (c .before .before .before .before .before .before .before .before .before .before .before .before .before .before .before .before .before .before .before .before .before .before .counter-refused .ensures) ∙ c .before .before .before .before .before .before .before .before .before .before .before .before .before .before .before .before .before .before .before .before .before .if5 .left) (sym (c .before .before .before .before .before .before .before .before .before .before .before .before .before .before .before .before .before .before .before .before .counted .ensures) ∙ c .before .before .before .before .before .before .before .before .before .before .before .before .before .before .before .before .before .before .before .if6 .taken))))
+loop-again-7 c =
+    let w = c .before .before .log-record7 in let a = c .before .before .before .before .counted-answer in
+    let n = c .before .before .before .before .before .before .before .before .before .before .before .before .before .before .count-fetch in
+    let t = counted (c .before .before .before) in let e = t .before .before in let r = fetch-found e in
+    counted-arm (going r) (stands r) (n .result .irq) (n .result .ppu) (n .result .vsplit) (a .result) (e .before .before .before .before .call4 .given .1)
+    (sym (e .before .counter-refused .ensures) ∙ e .if5 .left) (sym (t .before .counted .ensures) ∙ t .if6 .taken)
+    (n .ensures .0) (n .ensures .1 .0) (n .ensures .1 .1) (a .ensures) (w .last .0) (w .ensures)
 
-log-record-requires-8 : tie.Need-log-record-requires-8 Inv-loop μ-loop
-log-record-requires-8 c κs = few (c .before .before .before .before .before .before .before .before .before .before .before .before .before .before .before .before .before .before .before .before .before .before .before .before .before .before .before .loop .inv .0)
+-- Any other fetch; past it the CHR table is the chosen set's.
+abbrev set-shown : tie.After-log-record-arg11 Inv-loop μ-loop → tie.Joined7 Inv-loop μ-loop
+set-shown c = c .before .before .before .before .before .before .before .before .before .before .before
 
-add-count-8 : tie.Need-add-count-8 Inv-loop μ-loop
-add-count-8 c = one-more (c .before .before .before .before .before .before .before .before .before .before .before .before .before .before .before .before .before .before .before .before .before .before .before .before .before .before .before .before .before .before .loop .inv .0)
+abbrev other-found : tie.Joined7 Inv-loop μ-loop → Found
+other-found j = fetch-found (j .before .before .before .before .before .before)
 
-loop-less-8 : tie.Need-loop-less-8 Inv-loop μ-loop
-loop-less-8 c = nearer _ _ _ _ (sym (c .before .before .before .before .before .before .before .before .before .before .before .before .before .before .before .before .before .before .before .before .before .before .before .before .before .before .before .before .before .record-at .ensures) ∙ c .before .before .before .before .before .before .before .before .before .before .before .before .before .before .before .before .before .before .before .before .before .before .before .before .before .before .before .found2 .given .1)
+shown : (j : tie.Joined7 Inv-loop μ-loop) →
+    let s = head (other-found j) .loop .t in j .if7 .t ≡ withChrPages s (patternPages s (j .before .before .chosen-at .result .«bg_set»))
+shown j =
+    let s = head (other-found j) .loop .t in let set = j .before .before .chosen-at .result .«bg_set» in let c = j .before .set-changed in
+    elim (j .if7 .came) [
+      | inl x ↦ pages-changed s (j .if7 .t) set (c .result) (c .ensures) (x .5 .result) (x .0 .taken) (x .5 .ensures) (x .6)
+      | inr x ↦ pages-same s (j .if7 .t) set (c .result) (c .ensures) (x .0 .left) (x .1)
+    ]
 
 loop-again-8 : tie.Need-loop-again-8 Inv-loop μ-loop
 unfolding chrAnswer
-loop-again-8 c = kept (rw (c .before .before .log-record8 .ensures, c .before .before .before .before .before .other-answer .ensures) (other-arm (c .before .before .before .before .before .before .before .before .before .before .before .before .before .before .before .before .before .before .before .before .before .before .before .before .before .before .before .before .before .before .loop .inv .0) (sym (c .before .before .before .before .before .before .before .before .before .before .before .before .before .before .before .before .before .before .before .before .before .before .before .before .before .before .before .before .before .record-at .ensures) ∙ c .before .before .before .before .before .before .before .before .before .before .before .before .before .before .before .before .before .before .before .before .before .before .before .before .before .before .before .found2 .given .1) _ _ (c .before .before .before .before .before .before .before .before .before .before .before .before .before .before .before .before .chosen-at .ensures) (both-ways (λ x. x .6 ∙ ap (withChrPages (c .before .before .before .before .before .before .before .before .before .before .before .before .before .before .before .before .before .before .before .before .before .before .before .before .before .before .before .before .before .before .loop .t)) (x .5 .ensures ∙ pages-changed _ _ (sym (c .before .before .before .before .before .before .before .before .before .before .before .before .before .before .before .set-changed .ensures) ∙ x .0 .taken))) (λ x. x .1 ∙ ap (withChrPages (c .before .before .before .before .before .before .before .before .before .before .before .before .before .before .before .before .before .before .before .before .before .before .before .before .before .before .before .before .before .before .loop .t)) (pages-same _ _ (sym (c .before .before .before .before .before .before .before .before .before .before .before .before .before .before .before .set-changed .ensures) ∙ x .0 .left))) (c .before .before .before .before .before .before .before .before .before .before .before .before .before .before .if7 .came)) (c .before .before .before .before .before .before .before .before .before .before .before .before .before .before .before .before .before .before .before .before .before .before .before .before .call4 .given .1) (sym (c .before .before .before .before .before .before .before .before .before .before .before .before .before .before .before .before .before .before .before .before .before .counter-refused .ensures) ∙ c .before .before .before .before .before .before .before .before .before .before .before .before .before .before .before .before .before .before .before .before .if5 .left) (sym (c .before .before .before .before .before .before .before .before .before .before .before .before .before .before .before .before .before .before .before .counted .ensures) ∙ c .before .before .before .before .before .before .before .before .before .before .before .before .before .before .before .before .before .before .if6 .left)))
+loop-again-8 c =
+    let w = c .before .before .log-record8 in let a = c .before .before .before .before .before .other-answer in
+    let j = set-shown (c .before .before .before) in let p = j .before .before .chosen-at in
+    let t = j .before .before .before .before in let e = t .before .before in let r = other-found j in
+    other-arm (going r) (stands r) (p .result) (j .if7 .t) (a .result) (e .before .before .before .before .call4 .given .1)
+    (sym (e .before .counter-refused .ensures) ∙ e .if5 .left) (sym (t .before .counted .ensures) ∙ t .if6 .left)
+    (p .ensures) (shown j) (a .ensures) (w .last .0) (w .ensures)
 
-log-record-requires-9 : tie.Need-log-record-requires-9 Inv-loop μ-loop
-log-record-requires-9 c κs = few (c .before .before .before .before .before .before .before .before .before .before .loop .inv .0)
-
-add-count-9 : tie.Need-add-count-9 Inv-loop μ-loop
-add-count-9 c = one-more (c .before .before .before .before .before .before .before .before .before .before .before .before .before .loop .inv .0)
-
-loop-less-9 : tie.Need-loop-less-9 Inv-loop μ-loop
-loop-less-9 c = nearer _ _ _ _ (sym (c .before .before .before .before .before .before .before .before .before .before .before .before .record-at .ensures) ∙ c .before .before .before .before .before .before .before .before .before .before .found2 .given .1)
-
+-- A reset.
 loop-again-9 : tie.Need-loop-again-9 Inv-loop μ-loop
-loop-again-9 c = kept (rw (c .before .before .log-record9 .ensures) (reset-arm (c .before .before .before .before .before .before .before .before .before .before .before .before .before .loop .inv .0) (sym (c .before .before .before .before .before .before .before .before .before .before .before .before .record-at .ensures) ∙ c .before .before .before .before .before .before .before .before .before .before .found2 .given .1) (c .before .before .before .before .before .before .before .enum-told3 .given .1)))
+loop-again-9 c =
+    let w = c .before .before .log-record9 in let r = c .before .before .before .before .before .before .before .before .before in
+    reset-arm (going r) (stands r) (c .before .before .before .before .before .before .before .enum-told3 .given .1) (w .last .0) (w .ensures)
 
-log-record-requires-10 : tie.Need-log-record-requires-10 Inv-loop μ-loop
-log-record-requires-10 c κs = few (c .before .before .before .before .before .before .before .before .before .before .before .before .before .before .before .before .before .before .before .before .before .before .before .loop .inv .0)
+-- A PPU write.
+abbrev poked : tie.After-log-record-arg15 Inv-loop μ-loop → tie.After-store2 Inv-loop μ-loop
+poked c = c .before .before .before .before .before .before .before .before .before .before
 
-add-count-10 : tie.Need-add-count-10 Inv-loop μ-loop
-add-count-10 c = one-more (c .before .before .before .before .before .before .before .before .before .before .before .before .before .before .before .before .before .before .before .before .before .before .before .before .before .before .loop .inv .0)
-
-loop-less-10 : tie.Need-loop-less-10 Inv-loop μ-loop
-loop-less-10 c = nearer _ _ _ _ (sym (c .before .before .before .before .before .before .before .before .before .before .before .before .before .before .before .before .before .before .before .before .before .before .before .before .before .record-at .ensures) ∙ c .before .before .before .before .before .before .before .before .before .before .before .before .before .before .before .before .before .before .before .before .before .before .before .found2 .given .1)
+abbrev poke-found : tie.After-slice-known23 Inv-loop μ-loop → Found
+poke-found c = poked (c .before .before .before) .before .before .before .before .before .before .before .before .before
 
 loop-again-10 : tie.Need-loop-again-10 Inv-loop μ-loop
-loop-again-10 c = kept (rw (c .before .before .log-record10 .ensures) (onto (c .before .before .before .before .before .before .before .before .before .before .before .before .before .store2 .ensures _) (ppu-write-arm (c .before .before .before .before .before .before .before .before .before .before .before .before .before .before .before .before .before .before .before .before .before .before .before .before .before .before .loop .inv .0) (sym (c .before .before .before .before .before .before .before .before .before .before .before .before .before .before .before .before .before .before .before .before .before .before .before .before .before .record-at .ensures) ∙ c .before .before .before .before .before .before .before .before .before .before .before .before .before .before .before .before .before .before .before .before .before .before .before .found2 .given .1) (c .before .before .before .before .before .before .before .before .before .before .before .before .before .before .before .before .before .before .before .before .call5 .given .1))))
+loop-again-10 c =
+    let w = c .before .before .log-record10 in let d = poked (c .before .before .before) in let l = d .store2 .last in let r = poke-found c in
+    ppu-write-arm (going r) (stands r) (memOf (start r .args .prg .now) (l .0) (l .1 .0) (l .1 .1 .0) (l .1 .1 .1 .0))
+    (d .before .before .before .before .before .before .before .call5 .given .1) (d .store2 .ensures _) (w .last .0) (w .ensures)
 
+-- The trace's end, and a record that cannot be read.
 returns : tie.Need-returns Inv-loop μ-loop
-returns c = ends _ _ _ _ _ _ _ _ _ (c .before .before .before .loop .inv .0) (sym (c .before .before .record-at .ensures) ∙ c .enum-told .given .1)
+returns c = ends _ _ _ _ _ _ _ _ _ (c .before .before .before .loop .inv) (sym (c .before .before .record-at .ensures) ∙ c .enum-told .given .1)
 
 returns-2 : tie.Need-returns-2 Inv-loop μ-loop
-returns-2 c = unreadable _ _ _ _ _ _ _ _ _ _ (c .before .before .before .before .loop .inv .0) (sym (c .before .before .before .record-at .ensures) ∙ c .before .found .given .1)
-
-returns-3 : tie.Need-returns-3 Inv-loop μ-loop
-returns-3 c = read-stop (c .before .before .before .before .before .before .before .before .before .loop .inv .0) (sym (c .before .before .before .before .before .before .before .before .record-at .ensures) ∙ c .before .before .before .before .before .before .found2 .given .1) (c .before .before .before .call .given .1) (sym (c .before .audio-read .ensures) ∙ c .if1 .taken)
-
-returns-4 : tie.Need-returns-4 Inv-loop μ-loop
-returns-4 c = write-stop (c .before .before .before .before .before .before .before .before .before .loop .inv .0) (sym (c .before .before .before .before .before .before .before .before .record-at .ensures) ∙ c .before .before .before .before .before .before .found2 .given .1) (c .before .before .before .call2 .given .1) (sym (c .before .audio-write .ensures) ∙ c .if2 .taken)
-
-returns-5 : tie.Need-returns-5 Inv-loop μ-loop
-returns-5 c = fetch-stop (c .before .before .before .before .before .before .before .before .before .before .loop .inv .0) (sym (c .before .before .before .before .before .before .before .before .before .record-at .ensures) ∙ c .before .before .before .before .before .before .before .found2 .given .1) (c .before .before .before .before .call4 .given .1) (sym (c .before .counter-refused .ensures) ∙ c .if5 .taken)
+returns-2 c = unreadable _ _ _ _ _ _ _ _ _ _ (c .before .before .before .before .loop .inv) (sym (c .before .before .before .record-at .ensures) ∙ c .before .found .given .1)
 
 pub play-spec : {M : Type 1} → statement M
 play-spec =
     tie.close
     (tie.spec
-    Inv-loop μ-loop loop-holds (λ c κs. search needs) (λ c. search needs) (λ c. search needs) (λ c. search needs) (λ c. search needs)
-    clock-requires log-record-requires add-count loop-less loop-again (λ c. search needs) (λ c κs. search needs) (λ c. search needs)
-    (λ c. search needs) (λ c. search needs) (λ c κs. search needs) (λ c κs. search needs) log-record-requires-2 add-count-2 loop-less-2
-    loop-again-2 (λ c. search needs) (λ c κs. search needs) (λ c. search needs) (λ c. search needs) (λ c. search needs)
-    (λ c κs. search needs) (λ c κs. search needs) log-record-requires-3 add-count-3 loop-less-3 loop-again-3 (λ c κs. search needs)
-    (λ c κs. search needs) (λ c κs. search needs) map-prg-requires log-record-requires-4 add-count-4 loop-less-4 loop-again-4
-    (λ c κs. search needs) (λ c κs. search needs) (λ c κs. search needs) (λ c κs. search needs) (λ c κs. search needs)
-    (λ c κs. search needs) (λ c. search needs) (λ c κs. search needs) (λ c. search needs) log-record-requires-5 add-count-5 loop-less-5
-    loop-again-5 (λ c. search needs) (λ c κs. search needs) (λ c κs. search needs) log-record-requires-6 add-count-6 loop-less-6
-    loop-again-6 (λ c. search needs) (λ c κs. search needs) (λ c. search needs) (λ c κs. search needs) count-fetch-requires
-    (λ c. search needs) (λ c. search needs) (λ c κs. search needs) log-record-requires-7 add-count-7 loop-less-7 loop-again-7
+    Inv-loop μ-loop loop-holds
+    (λ c κs. search needs) (λ c. search needs) (λ c. search needs) (λ c. search needs) (λ c. search needs)
+    (λ c κs. ranges-kept .idle-fits _ (going-ranged (going (c .before .before .before)) .detector)) (λ c κs. few (going (c .before .before .before .before .before)))
+    (λ c. one-more (going (c .before .before .before .before .before .before .before .before)))
+    (λ c. nearer _ _ _ _ (stands (c .before .before .before .before .before .before .before .before))) loop-again
+    (λ c. search needs) (λ c κs. search needs) (λ c. search needs) (λ c. search needs) (λ c. search needs) (λ c κs. search needs) (λ c κs. search needs)
+    (λ c κs. few (going (read-tested c .before .before .before .before .before))) (λ c. one-more (going (read-found c))) (λ c. nearer _ _ _ _ (stands (read-found c)))
+    loop-again-2
+    (λ c. search needs) (λ c κs. search needs) (λ c. search needs) (λ c. search needs) (λ c. search needs) (λ c κs. search needs) (λ c κs. search needs)
+    (λ c κs. few (going (write-found (c .before .before .before)))) (λ c. one-more (going (write-found (c .before .before .before .before .before .before))))
+    (λ c. nearer _ _ _ _ (stands (write-found (c .before .before .before .before .before .before)))) loop-again-3
+    (λ c κs. search needs) (λ c κs. search needs) (λ c κs. search needs) map-prg-requires
+    (λ c κs. few (going (write-found (within (c .before .before .before .before .before .before .before))))) (λ c. one-more (going (prg-found c)))
+    (λ c. nearer _ _ _ _ (stands (prg-found c))) loop-again-4
+    (λ c κs. search needs) (λ c κs. search needs) (λ c κs. search needs) (λ c κs. search needs) (λ c κs. search needs) (λ c κs. search needs) (λ c. search needs)
+    (λ c κs. search needs) (λ c. search needs) (λ c κs. few (going (write-found (within (rest-mapped c))))) (λ c. one-more (going (rest-found c)))
+    (λ c. nearer _ _ _ _ (stands (rest-found c))) loop-again-5
+    (λ c. search needs) (λ c κs. search needs) (λ c κs. search needs) (λ c κs. few (going (c .before .before .before .before .before .before .before .before)))
+    (λ c. one-more (going (c .before .before .before .before .before .before .before .before .before .before .before)))
+    (λ c. nearer _ _ _ _ (stands (c .before .before .before .before .before .before .before .before .before .before .before))) loop-again-6
+    (λ c. search needs) (λ c κs. search needs) (λ c. search needs) (λ c κs. search needs) count-fetch-requires (λ c. search needs) (λ c. search needs)
+    (λ c κs. search needs) (λ c κs. few (going (fetch-found (counted c .before .before)))) (λ c. one-more (going (counted-found c)))
+    (λ c. nearer _ _ _ _ (stands (counted-found c))) loop-again-7
     (λ c κs. search needs) (λ c κs. search needs) (λ c κs. search needs) (λ c. search needs) (λ c. search needs) (λ c κs. search needs)
-    log-record-requires-8 add-count-8 loop-less-8 loop-again-8 (λ c. search needs) log-record-requires-9 add-count-9 loop-less-9
-    loop-again-9 (λ c. search needs) (λ c. search needs) (λ c. search needs) (λ c. search needs) (λ c κs. search needs)
-    log-record-requires-10 add-count-10 loop-less-10 loop-again-10 (λ c. search needs) (λ c. search needs) (λ c. search needs)
-    (λ c. search needs) (λ c. search needs) returns (λ c. search needs) (λ c. search needs) (λ c. search needs) (λ c. search needs)
-    (λ c. search needs) returns-2 (λ c. search needs) (λ c. search needs) (λ c. search needs) (λ c. search needs) (λ c. search needs)
-    returns-3 (λ c. search needs) (λ c. search needs) (λ c. search needs) (λ c. search needs) (λ c. search needs) returns-4
-    (λ c. search needs) (λ c. search needs) (λ c. search needs) (λ c. search needs) (λ c. search needs) returns-5)
+    (λ c κs. few (going (other-found (set-shown c)))) (λ c. one-more (going (other-found (set-shown (c .before .before .before)))))
+    (λ c. nearer _ _ _ _ (stands (other-found (set-shown (c .before .before .before))))) loop-again-8
+    (λ c. search needs) (λ c κs. few (going (c .before .before .before .before .before .before)))
+    (λ c. one-more (going (c .before .before .before .before .before .before .before .before .before)))
+    (λ c. nearer _ _ _ _ (stands (c .before .before .before .before .before .before .before .before .before))) loop-again-9
+    (λ c. search needs) (λ c. search needs) (λ c. search needs) (λ c. search needs) (λ c κs. search needs)
+    (λ c κs. few (going (poked c .before .before .before .before .before .before .before .before .before))) (λ c. one-more (going (poke-found c)))
+    (λ c. nearer _ _ _ _ (stands (poke-found c))) loop-again-10
+    (λ c. c .before .before .before .loop .inv .sizes .chr) (λ c. c .before .before .before .loop .inv .sizes .ram)
+    (λ c. c .before .before .before .loop .inv .sizes .ciram) (λ c. c .before .before .before .loop .inv .sizes .exram)
+    (λ c. c .before .before .before .loop .inv .log-size) returns
+    (λ c. c .before .before .before .before .loop .inv .sizes .chr) (λ c. c .before .before .before .before .loop .inv .sizes .ram)
+    (λ c. c .before .before .before .before .loop .inv .sizes .ciram) (λ c. c .before .before .before .before .loop .inv .sizes .exram)
+    (λ c. c .before .before .before .before .loop .inv .log-size) returns-2
+    (λ c. head (c .before .before .before .before .before) .loop .inv .sizes .chr) (λ c. head (c .before .before .before .before .before) .loop .inv .sizes .ram)
+    (λ c. head (c .before .before .before .before .before) .loop .inv .sizes .ciram) (λ c. head (c .before .before .before .before .before) .loop .inv .sizes .exram)
+    (λ c. head (c .before .before .before .before .before) .loop .inv .log-size) returns-3
+    (λ c. head (c .before .before .before .before .before) .loop .inv .sizes .chr) (λ c. head (c .before .before .before .before .before) .loop .inv .sizes .ram)
+    (λ c. head (c .before .before .before .before .before) .loop .inv .sizes .ciram) (λ c. head (c .before .before .before .before .before) .loop .inv .sizes .exram)
+    (λ c. head (c .before .before .before .before .before) .loop .inv .log-size) returns-4
+    (λ c. head (c .before .before .before .before .before .before) .loop .inv .sizes .chr)
+    (λ c. head (c .before .before .before .before .before .before) .loop .inv .sizes .ram)
+    (λ c. head (c .before .before .before .before .before .before) .loop .inv .sizes .ciram)
+    (λ c. head (c .before .before .before .before .before .before) .loop .inv .sizes .exram)
+    (λ c. head (c .before .before .before .before .before .before) .loop .inv .log-size) returns-5)
