@@ -37,7 +37,7 @@ use Rattle.histories.specs.Refusals.{lentAsRecorded}
 -- What holds of all that a contract allows holds of a step that it allows.
 seen-is : {K : Type 0} {A R E : K → Type 0} {allows : (κ : K) → A κ → R κ → E κ → Type 0} {seen : (κ : K) → A κ → R κ → E κ → Step} {t : Step} (P : Step → Type 0)
     → ((κ : K) (a : A κ) (r : R κ) (e : E κ) → allows κ a r e → P (seen κ a r e)) → Allowed allows seen t → P t
-seen-is P f x = subst P (x .is) (f (x .κ) (x .a) (x .r) (x .e) (x .allowed))
+seen-is P f x = subst P (x .5) (f (x .0) (x .1) (x .2) (x .3) (x .4))
 
 abbrev Meant : Step → Type 0
 Meant t = t ≡ meant (t .before) (t .made)
@@ -122,19 +122,19 @@ pub each : (b : Board) (c : Made) → Happens (meant b c)
 unfolding says leaves
 each b (call c) =
     let x = called c (b .state) (b .mem) in
-    any (record { κ = ([], ([], ([], ([], ([], tt))))); a = (b .state, lendsAll (b .mem) (c, tt)); r = x .out; e = (b .state, lendsAll (x .mem) (c, tt)); allowed = as-left c (b .state) (b .mem); is = by-after b c _ _ (as-left c (b .state) (b .mem)) })
+    any (([], ([], ([], ([], ([], tt))))), (b .state, lendsAll (b .mem) (c, tt)), x .out, (b .state, lendsAll (x .mem) (c, tt)), as-left c (b .state) (b .mem), by-after b c _ _ (as-left c (b .state) (b .mem)))
 each b (peek a) =
-    peeks (record { κ = ([], ([], ([], ([], ([], tt))))); a = (b .state, lendsAll (b .mem) (a, tt)); r = cpuPeek (b .state) (b .mem) (a .0); e = (b .state, lendsAll (b .mem) (a, tt)); allowed = refl; is = refl })
+    peeks (([], ([], ([], ([], ([], tt))))), (b .state, lendsAll (b .mem) (a, tt)), cpuPeek (b .state) (b .mem) (a .0), (b .state, lendsAll (b .mem) (a, tt)), refl, refl)
 each b (ppu-peek a) =
-    ppu-peeks (record { κ = ([], ([], ([], ([], ([], tt))))); a = (b .state, lendsAll (b .mem) (a, tt)); r = ppuPeek (b .state) (b .mem) (a .0); e = (b .state, lendsAll (b .mem) (a, tt)); allowed = refl; is = refl })
+    ppu-peeks (([], ([], ([], ([], ([], tt))))), (b .state, lendsAll (b .mem) (a, tt)), ppuPeek (b .state) (b .mem) (a .0), (b .state, lendsAll (b .mem) (a, tt)), refl, refl)
 each b (sprite-peek a) =
-    sprite-peeks (record { κ = ([], ([], ([], ([], ([], tt))))); a = (b .state, lendsAll (b .mem) (a, tt)); r = spritePeek (b .state) (b .mem) (a .0); e = (b .state, lendsAll (b .mem) (a, tt)); allowed = refl; is = refl })
-each b mirroring-asked = mirrorings (b .mem) (record { κ = tt; a = (b .state, tt); r = mirroringCall (b .state); e = (b .state, tt); allowed = refl; is = refl })
-each b interrupt-asked = interrupts-up (b .mem) (record { κ = tt; a = (b .state, tt); r = interruptCall (b .state); e = (b .state, tt); allowed = refl; is = refl })
+    sprite-peeks (([], ([], ([], ([], ([], tt))))), (b .state, lendsAll (b .mem) (a, tt)), spritePeek (b .state) (b .mem) (a .0), (b .state, lendsAll (b .mem) (a, tt)), refl, refl)
+each b mirroring-asked = mirrorings (b .mem) (tt, (b .state, tt), mirroringCall (b .state), (b .state, tt), refl, refl)
+each b interrupt-asked = interrupts-up (b .mem) (tt, (b .state, tt), interruptCall (b .state), (b .state, tt), refl, refl)
 each b (cpu-page a) =
-    cpu-pages (record { κ = ([], ([], ([], ([], tt)))); a = (b .state, lendsAll (b .mem) (a, tt)); r = lends (cpuView (b .state) (b .mem) (a .0)); e = (b .state, lendsAll (b .mem) (a, tt)); allowed = refl; is = refl })
+    cpu-pages (([], ([], ([], ([], tt)))), (b .state, lendsAll (b .mem) (a, tt)), lends (cpuView (b .state) (b .mem) (a .0)), (b .state, lendsAll (b .mem) (a, tt)), refl, refl)
 each b (ppu-page a) =
-    ppu-pages (record { κ = ([], ([], ([], ([], ([], tt))))); a = (b .state, lendsAll (b .mem) (a, tt)); r = lends (ppuView (b .state) (b .mem) (a .0)); e = (b .state, lendsAll (b .mem) (a, tt)); allowed = refl; is = refl })
+    ppu-pages (([], ([], ([], ([], ([], tt))))), (b .state, lendsAll (b .mem) (a, tt)), lends (ppuView (b .state) (b .mem) (a .0)), (b .state, lendsAll (b .mem) (a, tt)), refl, refl)
 
 pub code-is-the-board : CodeIsTheBoard
 code-is-the-board = record { loads = λ κ a r e p. p; only = only; each = each }

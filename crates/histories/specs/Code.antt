@@ -51,14 +51,9 @@ gives b c o m' = record { before = b; made = c; said = answers (o .answer); afte
 abbrev pub looks : Board → Made → Said → Step
 looks b c x = record { before = b; made = c; said = x; after = b }
 
--- A contract allows the step t: there are arguments and a result that it allows, and t is how they are seen.
-pub record Allowed {K : Type 0} {A R E : K → Type 0} (allows : (κ : K) → A κ → R κ → E κ → Type 0) (seen : (κ : K) → A κ → R κ → E κ → Step) (t : Step) : Type 0 where
-  pub κ : K
-  pub a : A κ
-  pub r : R κ
-  pub e : E κ
-  pub allowed : allows κ a r e
-  pub is : seen κ a r e ≡ t
+-- A contract allows something that is seen as x: there are arguments and a result that it allows, and x is how they are seen.
+abbrev pub Allowed : {K : Type 0} {A R E : K → Type 0} {X : Type 0} → ((κ : K) → A κ → R κ → E κ → Type 0) → ((κ : K) → A κ → R κ → E κ → X) → X → Type 0
+Allowed {K} {A} {R} {E} allows seen x = (κ : K) × (a : A κ) × (r : R κ) × (e : E κ) × allows κ a r e × (seen κ a r e ≡ x)
 
 -- A call of the code. Clock, reset and PPU register write are not lent the buffers: they stand for a call over any that have the recorded lengths.
 pub data Happens (t : Step) : Type 0 where

@@ -34,7 +34,8 @@ use Rattle.host_looks.proofs.whole.mmc5_interrupt.Reads as interrupt-told
 use Rattle.host_looks.proofs.whole.mmc5_mirroring.Reads as mirroring-told
 use Rattle.host_replay.proofs.mmc5_replay.Reads as replay
 use Rattle.settles.specs.Hosts.{wordsLeft, behindWords}
-use Rattle.served.specs.Held.{Held, held, Hearing, exchange, looking, Allowed, lentIn, behindLent}
+use Rattle.histories.specs.Code.{Allowed}
+use Rattle.served.specs.Held.{Held, held, Hearing, exchange, looking, lentIn, behindLent}
 use Rattle.served.specs.Held.Hearing.{number, bytes}
 
 -- A load as a host sees it: the buffers, whether CHR is writable, the header's mirroring, the number that it is told, and the words that it holds then.

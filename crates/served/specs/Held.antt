@@ -3,7 +3,6 @@
 -- Assumes nothing.
 use Prim.Native.Nat.{ℕ}
 use mathlib.Core.List.{List}
-use mathlib.Core.Path.{_≡_}
 use Rattle.memory.specs.Bytes.{Mem}
 use Rattle.calls.specs.Lent.{BufferThen, MemoryThen, memLent, behindMemory}
 use Rattle.words.specs.Words.{Words, stateOf, wordsOf}
@@ -47,10 +46,6 @@ exchange l h n h' = record { own = l; before = h; told = n; after = h' }
 -- A call that leaves all that it is lent.
 abbrev pub looking : List ℕ → Held → Hearing → Exchange
 looking l h n = exchange l h n h
-
--- A function's contract (`Learnt`: what a caller may rely on, as the prover reads it off the code) allows something that looks like x.
-abbrev pub Allowed : {K : Type 0} {A R E : K → Type 0} {X : Type 0} → ((κ : K) → A κ → R κ → E κ → Type 0) → ((κ : K) → A κ → R κ → E κ → X) → X → Type 0
-Allowed {K} {A} {R} {E} allows look x = (κ : K) × (a : A κ) × (r : R κ) × (e : E κ) × allows κ a r e × (look κ a r e ≡ x)
 
 -- Behind the words come the five buffers; a look at all that is lent.
 abbrev pub Lent : Type 0 → Type 0
