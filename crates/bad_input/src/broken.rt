@@ -1,112 +1,103 @@
-// A state with one range broken, for each range of document 01's "STATE ranges".
-use crate::read_over;
-use crate::read_state;
+// A state with one range broken, for each range of document 01's "STATE ranges", by the number of the try. Of page words those that a table may
+// not show: another table's buffer, a page past the buffer's end, CHR-ROM marked writable.
 use memory::PageWord;
 use memory::Src;
+use memory::words::word_of;
+use registers::Regs;
+use scanline::Detector;
+use split::VSplit;
+use state::Lengths;
+use state::PpuStatus;
 use state::State;
 
-fn groups(s: State) {
-    let mut t = s;
-    t.irq.idle_count = 3;
-    read_state(b"idle count 3", t);
-    t = s;
-    t.irq.scanline = 65280;
-    read_state(b"line counter 65,280", t);
-    t = s;
-    t.ppu.tile_number = 4294967294;
-    read_state(b"tile count 4,294,967,294", t);
-    t = s;
-    t.ppu.tile_cache = 1024;
-    read_state(b"tile cache 1,024", t);
-    t = s;
-    t.vsplit.tile = 32;
-    read_state(b"split tile 32", t);
-    t = s;
-    t.vsplit.tile_addr = 960;
-    read_state(b"tile address 960", t);
+// The number where the try is the one that breaks it, else as it was.
+fn byte(n: u8, at: u8, bad: u8, good: u8) -> u8 {
+    if n == at {
+        return bad;
+    }
+    good
 }
 
-fn registers(s: State) {
-    let mut t = s;
-    t.regs.prg_mode = 4;
-    read_state(b"PRG mode 4", t);
-    t = s;
-    t.regs.chr_mode = 4;
-    read_state(b"CHR mode 4", t);
-    t = s;
-    t.regs.exram_mode = 4;
-    read_state(b"ExRAM mode 4", t);
-    t = s;
-    t.regs.fill_attr = 4;
-    read_state(b"fill attribute 4", t);
+fn half(n: u8, at: u8, bad: u16, good: u16) -> u16 {
+    if n == at {
+        return bad;
+    }
+    good
 }
 
-fn narrow_registers(s: State) {
-    let mut t = s;
-    t.regs.protect_a = 4;
-    read_state(b"first protect byte 4", t);
-    t = s;
-    t.regs.protect_b = 4;
-    read_state(b"second protect byte 4", t);
-    t = s;
-    t.regs.chr_hi = 255;
-    read_state(b"chr_hi 255", t);
-    t = s;
-    t.regs.chr_hi = 1024;
-    read_state(b"chr_hi 1,024", t);
+fn number(n: u8, at: u8, bad: u32, good: u32) -> u32 {
+    if n == at {
+        return bad;
+    }
+    good
 }
 
-fn recorded(s: State) {
-    let mut t = s;
-    t.lengths.loaded = false;
-    read_state(b"not loaded", t);
-    t.lengths.prg = 4096;
-    read_state(b"not loaded, with another length", t);
-    t = s;
-    t.lengths.prg = 0;
-    read_state(b"another length", t);
-    read_over(
-        b"PRG-ROM of 0 recorded and lent",
-        t,
-        0,
-        8192,
-        8192,
-        2048,
-        1024,
-    );
+fn detector(n: u8, d: Detector) -> Detector {
+    let mut t = d;
+    t.idle_count = byte(n, 13, 3, d.idle_count);
+    t.scanline = half(n, 14, 65280, d.scanline);
+    t
 }
 
-// Page words that a table may not show: another table's buffer, a page past the buffer's end, CHR-ROM marked writable.
-fn prg_pages(s: State) {
-    let past = memory::words::word_of(Src::PrgRom, 8, false);
-    let pattern = memory::words::word_of(Src::Chr, 0, false);
-    let mut t = s;
-    t.prg_pages[63] = pattern;
-    read_state(b"CHR in the PRG table", t);
-    t.prg_pages[63] = past;
-    read_state(b"PRG-ROM past its end", t);
-    t.prg_pages[63] = PageWord(4000);
-    read_state(b"a word that names no page", t);
+fn status(n: u8, p: PpuStatus) -> PpuStatus {
+    let mut t = p;
+    t.tile_number = number(n, 15, 4294967294, p.tile_number);
+    t.tile_cache = half(n, 16, 1024, p.tile_cache);
+    t
 }
 
-fn chr_pages(s: State) {
-    let rom = memory::words::word_of(Src::PrgRom, 0, false);
-    let beyond = memory::words::word_of(Src::Chr, 8, false);
-    let marked = memory::words::word_of(Src::Chr, 0, true);
-    let mut t = s;
-    t.chr_pages[0] = rom;
-    read_state(b"PRG-ROM in the CHR table", t);
-    t.chr_pages[0] = beyond;
-    read_state(b"CHR past its end", t);
-    t.chr_pages[0] = marked;
-    read_state(b"CHR-ROM marked writable", t);
+fn vertical(n: u8, v: VSplit) -> VSplit {
+    let mut t = v;
+    t.tile = byte(n, 17, 32, v.tile);
+    t.tile_addr = half(n, 18, 960, v.tile_addr);
+    t
 }
 
-pub fn each(s: State) {
-    groups(s);
-    registers(s);
-    narrow_registers(s);
-    recorded(s);
-    prg_pages(s);
-    chr_pages(s);
+fn registers(n: u8, g: Regs) -> Regs {
+    let mut t = g;
+    t.prg_mode = byte(n, 19, 4, g.prg_mode);
+    t.chr_mode = byte(n, 20, 4, g.chr_mode);
+    t.exram_mode = byte(n, 21, 4, g.exram_mode);
+    t.fill_attr = byte(n, 22, 4, g.fill_attr);
+    t.protect_a = byte(n, 23, 4, g.protect_a);
+    t.protect_b = byte(n, 24, 4, g.protect_b);
+    t.chr_hi = half(n, 25, 255, half(n, 26, 1024, g.chr_hi));
+    t
+}
+
+fn recorded(n: u8, l: Lengths) -> Lengths {
+    let mut t = l;
+    t.loaded = l.loaded & (n != 27) & (n != 28);
+    t.prg = number(n, 28, 4096, number(n, 29, 0, number(n, 30, 0, l.prg)));
+    t
+}
+
+fn prg_page(n: u8, w: PageWord) -> PageWord {
+    match n {
+        31 => word_of(Src::Chr, 0, false),
+        32 => word_of(Src::PrgRom, 8, false),
+        33 => PageWord(4000),
+        _ => w,
+    }
+}
+
+fn chr_page(n: u8, w: PageWord) -> PageWord {
+    match n {
+        34 => word_of(Src::PrgRom, 0, false),
+        35 => word_of(Src::Chr, 8, false),
+        36 => word_of(Src::Chr, 0, true),
+        _ => w,
+    }
+}
+
+pub fn broken(n: u8, s: State) -> State {
+    let mut t = s;
+    t.irq = detector(n, s.irq);
+    t.ppu = status(n, s.ppu);
+    t.vsplit = vertical(n, s.vsplit);
+    t.regs = registers(n, s.regs);
+    t.lengths = recorded(n, s.lengths);
+    t.prg_pages[63] = prg_page(n, s.prg_pages[63]);
+    t.chr_pages[0] = chr_page(n, s.chr_pages[0]);
+    t
 }

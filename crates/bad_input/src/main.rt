@@ -1,8 +1,8 @@
 // What bad input gets: wrong lengths, each range of the state broken one at a time, each audio register, fetches at the counters' limits. One line
 // each: what was tried, and the refusal's number or `taken`. The file `stdout` is written from document 01's table of refusals.
 ghost use Prim.Native.Nat.{_≤_};
+ghost use lib.ListN.{length};
 use answers::Answer;
-use memory::CpuAddr;
 use registers::Mirroring;
 use say::say;
 use say::say_number;
@@ -10,96 +10,81 @@ use state::State;
 
 mod broken;
 mod counters;
+mod lengths;
+mod lent;
 
-// An answer, as one line.
-pub fn told(label: &[u8], answer: Answer) {
-    say(label);
+// What a call got, as the end of a line.
+pub fn told(answer: Answer) {
     if let Answer::Refused(refusal) = answer {
         say(b": ");
         say_number(answers::number_of(refusal) as u64);
         say(b"\n");
-    } else {
-        say(b": taken\n");
+        return;
+    }
+    say(b": taken\n");
+}
+
+// Where the line ends that holds a place.
+fn line_end(text: &[u8], at: usize) -> usize
+    requires { ⌜ at ≤ length (now text) ⌝ }
+    ensures { λ r. ⌜ (at ≤ r) × (r ≤ length (now (text .entry))) ⌝ }
+{
+    let mut end = at;
+    while end < text.len() {
+        if text[end] == b'\n' {
+            return end;
+        }
+        end += 1;
+    }
+    end
+}
+
+// A call over the buffers of a try, and what it got.
+fn answered(kind: u8, s: State, addr: u16, n: u8) {
+    let got = lent::by_number(kind, s, addr, n);
+    let answer = got.answer;
+    told(answer);
+}
+
+// A try over the state that its number breaks: a load, or a CPU read of $8000.
+fn tried(s: State, n: u8) {
+    let t = broken::broken(n, s);
+    if n < lengths::FIRST_READ {
+        return answered(lent::LOAD, t, 0, n);
+    }
+    answered(lent::READ, t, 0x8000, n);
+}
+
+// The tries in turn: each line of `labels` says what one is.
+fn tries(labels: &[u8], s: State) {
+    let mut n = 0u8;
+    let mut at = 0;
+    while at < labels.len() {
+        let end = line_end(labels, at);
+        say(&labels[at..end]);
+        tried(s, n);
+        if n == 255 {
+            return;
+        }
+        n += 1;
+        at = end + 1;
     }
 }
 
-// A CPU read of $8000 over a state, with buffers of these lengths lent.
-pub fn read_over(label: &[u8], s: State, p: usize, c: usize, r: usize, i: usize, e: usize)
-    requires { ⌜ (p ≤ 8192) × ((c ≤ 8192) × ((r ≤ 8192) × ((i ≤ 4096) × (e ≤ 4096)))) ⌝ }
-{
-    let prg = [0u8; 8192];
-    let chr = [0u8; 8192];
-    let ram = [0u8; 8192];
-    let ciram = [0u8; 4096];
-    let exram = [0u8; 4096];
-    let outcome = board::cpu_side::cpu_read(
-        s,
-        &prg[0..p],
-        &chr[0..c],
-        &ram[0..r],
-        &ciram[0..i],
-        &exram[0..e],
-        CpuAddr(0x8000),
-    );
-    let answer = outcome.answer;
-    told(label, answer);
-}
-
-// The same with the recorded lengths.
-pub fn read_state(label: &[u8], s: State) {
-    read_over(label, s, 8192, 8192, 8192, 2048, 1024);
-}
-
+// What was called, and where.
 fn address(label: &[u8], addr: u16) {
     say(label);
     say_number(addr as u64);
 }
 
-// A read, a peek and a write, each over buffers of the recorded lengths.
-fn audio_read(s: State, addr: u16) {
-    let full = [0u8; 8192];
-    let ciram = [0u8; 2048];
-    let exram = [0u8; 1024];
-    let read = board::cpu_side::cpu_read(s, &full, &full, &full, &ciram, &exram, CpuAddr(addr));
-    let answer = read.answer;
-    address(b"read ", addr);
-    told(b"", answer);
-}
-
-fn audio_peek(s: State, addr: u16) {
-    let full = [0u8; 8192];
-    let ciram = [0u8; 2048];
-    let exram = [0u8; 1024];
-    let answer = board::cpu_side::cpu_peek(s, &full, &full, &full, &ciram, &exram, CpuAddr(addr));
-    address(b"peek ", addr);
-    told(b"", answer);
-}
-
-fn audio_write(s: State, addr: u16) {
-    let prg = [0u8; 8192];
-    let mut chr = [0u8; 8192];
-    let mut ram = [0u8; 8192];
-    let mut ciram = [0u8; 2048];
-    let mut exram = [0u8; 1024];
-    let written = board::cpu_side::cpu_write(
-        s,
-        &prg,
-        &mut chr,
-        &mut ram,
-        &mut ciram,
-        &mut exram,
-        CpuAddr(addr),
-        1,
-    );
-    let answer = written.answer;
-    address(b"write ", addr);
-    told(b"", answer);
-}
-
+// A read, a peek and a write, over buffers of the recorded lengths.
 fn audio(s: State, addr: u16) {
-    audio_read(s, addr);
-    audio_peek(s, addr);
-    audio_write(s, addr);
+    address(b"read ", addr);
+    answered(lent::READ, s, addr, lengths::AS_RECORDED);
+    address(b"peek ", addr);
+    answered(lent::PEEK, s, addr, lengths::AS_RECORDED);
+    address(b"write ", addr);
+    told(lent::written(s, addr));
 }
 
 // $5000-$5016, at the audio registers and beside them.
@@ -109,69 +94,64 @@ fn audio_registers(s: State) {
     }
 }
 
-// Each buffer in turn without a byte.
-fn lengths(s: State) {
-    read_state(b"all lengths as recorded", s);
-    read_over(b"PRG-ROM of no byte", s, 0, 8192, 8192, 2048, 1024);
-    read_over(b"CHR of no byte", s, 8192, 0, 8192, 2048, 1024);
-    read_over(b"PRG-RAM of no byte", s, 8192, 8192, 0, 2048, 1024);
-    read_over(b"CIRAM of no byte", s, 8192, 8192, 8192, 0, 1024);
-    read_over(b"ExRAM of no byte", s, 8192, 8192, 8192, 2048, 0);
-}
-
-// A load over buffers of these lengths.
-fn load_of(label: &[u8], p: usize, c: usize, r: usize, i: usize, e: usize)
-    requires { ⌜ (p ≤ 8192) × ((c ≤ 8192) × ((r ≤ 8192) × ((i ≤ 4096) × (e ≤ 4096)))) ⌝ }
-{
-    let prg = [0u8; 8192];
-    let chr = [0u8; 8192];
-    let ram = [0u8; 8192];
-    let ciram = [0u8; 4096];
-    let exram = [0u8; 4096];
-    let outcome = board::loads::load(
-        &prg[0..p],
-        &chr[0..c],
-        &ram[0..r],
-        &ciram[0..i],
-        &exram[0..e],
-        false,
-        Mirroring::Horizontal,
-    );
-    let answer = outcome.answer;
-    told(label, answer);
-}
-
-fn loads() {
-    load_of(b"load", 8192, 8192, 8192, 2048, 1024);
-    load_of(b"load PRG-ROM 4,096", 4096, 8192, 8192, 2048, 1024);
-    load_of(b"load CHR 2,000", 8192, 2000, 8192, 2048, 1024);
-    load_of(b"load PRG-RAM 2,000", 8192, 8192, 2000, 2048, 1024);
-    load_of(b"load CIRAM 4,096", 8192, 8192, 8192, 4096, 1024);
-    load_of(b"load ExRAM 4,096", 8192, 8192, 8192, 2048, 4096);
-    load_of(b"load of nothing", 0, 0, 0, 0, 0);
-}
-
+// A load over buffers of the recorded lengths. It takes no state; a refused one gives the state to hand in.
 fn loaded() -> State {
-    let full = [0u8; 8192];
-    let ciram = [0u8; 2048];
-    let exram = [0u8; 1024];
-    let outcome = board::loads::load(
-        &full,
-        &full,
-        &full,
-        &ciram,
-        &exram,
+    let none = [0u8; 1];
+    let refused = board::loads::load(
+        &none,
+        &none,
+        &none,
+        &none,
+        &none,
         false,
         Mirroring::Horizontal,
     );
-    outcome.state
+    let load = lent::by_number(lent::LOAD, refused.state, 0, lengths::AS_RECORDED);
+    load.state
 }
 
 fn main() {
-    loads();
     let s = loaded();
-    lengths(s);
-    broken::each(s);
+    tries(
+        b"load\n\
+        load PRG-ROM 4,096\n\
+        load CHR 2,000\n\
+        load PRG-RAM 2,000\n\
+        load CIRAM 4,096\n\
+        load ExRAM 4,096\n\
+        load of nothing\n\
+        all lengths as recorded\n\
+        PRG-ROM of no byte\n\
+        CHR of no byte\n\
+        PRG-RAM of no byte\n\
+        CIRAM of no byte\n\
+        ExRAM of no byte\n\
+        idle count 3\n\
+        line counter 65,280\n\
+        tile count 4,294,967,294\n\
+        tile cache 1,024\n\
+        split tile 32\n\
+        tile address 960\n\
+        PRG mode 4\n\
+        CHR mode 4\n\
+        ExRAM mode 4\n\
+        fill attribute 4\n\
+        first protect byte 4\n\
+        second protect byte 4\n\
+        chr_hi 255\n\
+        chr_hi 1,024\n\
+        not loaded\n\
+        not loaded, with another length\n\
+        another length\n\
+        PRG-ROM of 0 recorded and lent\n\
+        CHR in the PRG table\n\
+        PRG-ROM past its end\n\
+        a word that names no page\n\
+        PRG-ROM in the CHR table\n\
+        CHR past its end\n\
+        CHR-ROM marked writable",
+        s,
+    );
     audio_registers(s);
     counters::each(s);
 }
