@@ -10,11 +10,23 @@ returns c = rw (← c .before .before .before .passed .ensures, c .before .gate 
 
 returns-2 : tie.Need-returns-2
 unfolding cpuPeek
-returns-2 c = rw (← c .before .before .before .before .passed .ensures, c .before .before .enum-told .given .1, ← c .before .audio-read .ensures, c .if1 .taken)
+returns-2 c =
+    rw (
+      ← c .before .before .before .before .passed .ensures,
+      c .before .before .enum-told .given .1,
+      ← c .before .audio-read .ensures,
+      c .if1 .taken,
+    )
 
 returns-3 : tie.Need-returns-3
 unfolding cpuPeek
-returns-3 c = rw (← c .before .before .before .before .before .passed .ensures, c .before .before .before .enum-told .given .1, ← c .before .before .audio-read .ensures, c .before .if1 .left) (c .answer-at .ensures)
+returns-3 c =
+    rw (
+      ← c .before .before .before .before .before .passed .ensures,
+      c .before .before .before .enum-told .given .1,
+      ← c .before .before .audio-read .ensures,
+      c .before .if1 .left,
+    ) (c .answer-at .ensures)
 
 pub cpu-peek-spec : {M : Type 1} → statement M
 cpu-peek-spec =

@@ -10,11 +10,26 @@ returns c = rw (← c .before .before .before .before .passed .ensures, c .befor
 
 returns-2 : tie.Need-returns-2
 unfolding cpuRead
-returns-2 c = rw (← c .before .before .before .before .before .passed .ensures, c .before .before .before .enum-told .given .1, ← c .before .before .audio-read .ensures, c .before .if1 .taken) (c .refuse2 .ensures)
+returns-2 c =
+    rw (
+      ← c .before .before .before .before .before .passed .ensures,
+      c .before .before .before .enum-told .given .1,
+      ← c .before .before .audio-read .ensures,
+      c .before .if1 .taken,
+    ) (c .refuse2 .ensures)
 
 returns-3 : tie.Need-returns-3
 unfolding cpuRead
-returns-3 c = rw (← c .before .before .before .before .before .before .passed .ensures, c .before .before .before .before .enum-told .given .1, ← c .before .before .before .audio-read .ensures, c .before .before .if1 .left, c .before .answer-at .ensures, c .irq-read .ensures)
+returns-3 c =
+    let at-enum-told = c .before .before .before .before in
+    rw (
+      ← at-enum-told .before .before .passed .ensures,
+      at-enum-told .enum-told .given .1,
+      ← c .before .before .before .audio-read .ensures,
+      c .before .before .if1 .left,
+      c .before .answer-at .ensures,
+      c .irq-read .ensures,
+    )
 
 pub cpu-read-spec : {M : Type 1} → statement M
 cpu-read-spec =

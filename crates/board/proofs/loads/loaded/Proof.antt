@@ -14,7 +14,16 @@ map-prg-requires c κs = let t = lengths-say _ (c .before .before .pre) in (omeg
 
 returns : tie.Need-returns
 unfolding loadedState
-returns c = rw (c .new3 .ensures, c .before .new2 .ensures, c .before .before .map-names .ensures, c .before .before .before .map-chr .ensures, c .before .before .before .before .map-prg .ensures, c .before .before .before .before .before .before .new .ensures)
+returns c =
+    let at-map-prg = c .before .before .before .before in
+    rw (
+      c .new3 .ensures,
+      c .before .new2 .ensures,
+      c .before .before .map-names .ensures,
+      c .before .before .before .map-chr .ensures,
+      at-map-prg .map-prg .ensures,
+      at-map-prg .before .before .new .ensures,
+    )
 
 pub loaded-spec : {M : Type 1} → statement M
 loaded-spec =

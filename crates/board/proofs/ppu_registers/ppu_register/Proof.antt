@@ -10,7 +10,13 @@ returns c = rw (← c .before .before .in-range .ensures, c .before .if1 .taken)
 
 returns-2 : tie.Need-returns-2
 unfolding ppuRegisterCall
-returns-2 c = rw (← c .before .before .before .in-range .ensures, c .before .before .if1 .left, c .before .status-told .ensures, c .detector-told .ensures)
+returns-2 c =
+    rw (
+      ← c .before .before .before .in-range .ensures,
+      c .before .before .if1 .left,
+      c .before .status-told .ensures,
+      c .detector-told .ensures,
+    )
 
 pub ppu-register-spec : {M : Type 1} → statement M
 ppu-register-spec =

@@ -16,15 +16,41 @@ ppu-seen-requires c κs = ranged _ (c .before .before .before .before .before .b
 
 split-seen-requires : tie.Need-split-seen-requires
 unfolding ppuSeen seenAt
-split-seen-requires c κs = rw (c .ppu-seen .ensures, c .before .seen .ensures) (ranges-kept .tiles _ _ _ (c .before .before .before .before .before .before .before .before .pre .1 .0) (c .before .before .before .before .before .before .before .before .pre .1 .1) (ranged _ (c .before .before .before .before .before .before .before .before .pre .0) .tiles))
+split-seen-requires c κs =
+    let at-pre = c .before .before .before .before .before .before .before .before in
+    rw (c .ppu-seen .ensures, c .before .seen .ensures)
+    (ranges-kept .tiles _ _ _ (at-pre .pre .1 .0) (at-pre .pre .1 .1) (ranged _ (at-pre .pre .0) .tiles))
 
 returns : tie.Need-returns
 unfolding countedCall
-returns c = rw (← c .before .before .before .before .before .before .before .before .seen .ensures, ← c .before .before .before .before .before .before .before .ppu-seen .ensures, ← c .before .before .before .before .before .before .split-seen .ensures, ← c .before .before .before .before .before .nametable-use .ensures, ← c .before .before .before .before .active .ensures, ← c .before .before .before .address-refused .ensures, c .before .if1 .taken) (c .refuse .ensures)
+returns c =
+    let at-active = c .before .before .before .before in
+    rw (
+      ← at-active .before .before .before .before .seen .ensures,
+      ← at-active .before .before .before .ppu-seen .ensures,
+      ← at-active .before .before .split-seen .ensures,
+      ← at-active .before .nametable-use .ensures,
+      ← at-active .active .ensures,
+      ← c .before .before .before .address-refused .ensures,
+      c .before .if1 .taken,
+    ) (c .refuse .ensures)
 
 returns-2 : tie.Need-returns-2
 unfolding countedCall
-returns-2 c = rw (← c .before .before .before .before .before .before .before .before .before .before .seen .ensures, ← c .before .before .before .before .before .before .before .before .before .ppu-seen .ensures, ← c .before .before .before .before .before .before .before .before .split-seen .ensures, ← c .before .before .before .before .before .before .before .nametable-use .ensures, ← c .before .before .before .before .before .before .active .ensures, ← c .before .before .before .before .before .address-refused .ensures, c .before .before .before .if1 .left, c .counted-served .ensures, c .before .page-at .ensures)
+returns-2 c =
+    let at-address-refused = c .before .before .before .before .before in
+    let at-ppu-seen = at-address-refused .before .before .before .before in
+    rw (
+      ← at-ppu-seen .before .seen .ensures,
+      ← at-ppu-seen .ppu-seen .ensures,
+      ← at-address-refused .before .before .before .split-seen .ensures,
+      ← at-address-refused .before .before .nametable-use .ensures,
+      ← at-address-refused .before .active .ensures,
+      ← at-address-refused .address-refused .ensures,
+      c .before .before .before .if1 .left,
+      c .counted-served .ensures,
+      c .before .page-at .ensures,
+    )
 
 pub fetch-counted-spec : {M : Type 1} → statement M
 fetch-counted-spec =

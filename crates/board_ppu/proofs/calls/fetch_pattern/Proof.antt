@@ -6,7 +6,13 @@ use Rattle.board_ppu.proofs.calls.fetch_pattern.Tie as tie
 
 returns : tie.Need-returns
 unfolding patternCall
-returns c = rw (c .pattern-served .ensures, c .before .page-at .ensures, c .before .before .pattern-pages .ensures, c .before .before .before .choose .ensures)
+returns c =
+    rw (
+      c .pattern-served .ensures,
+      c .before .page-at .ensures,
+      c .before .before .pattern-pages .ensures,
+      c .before .before .before .choose .ensures,
+    )
 
 pub fetch-pattern-spec : {M : Type 1} → statement M
 fetch-pattern-spec =

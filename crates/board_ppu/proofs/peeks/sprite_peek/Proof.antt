@@ -14,7 +14,14 @@ returns-2 c = rw (← c .before .before .before .before .passed .ensures, c .bef
 
 returns-3 : tie.Need-returns-3
 unfolding spritePeek
-returns-3 c = rw (← c .before .before .before .before .before .before .passed .ensures, c .before .before .before .before .enum-told .given .1, c .before .before .if1 .left, c .sprite-byte .ensures)
+returns-3 c =
+    let at-enum-told = c .before .before .before .before in
+    rw (
+      ← at-enum-told .before .before .passed .ensures,
+      at-enum-told .enum-told .given .1,
+      c .before .before .if1 .left,
+      c .sprite-byte .ensures,
+    )
 
 pub sprite-peek-spec : {M : Type 1} → statement M
 sprite-peek-spec =

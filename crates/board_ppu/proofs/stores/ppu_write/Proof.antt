@@ -12,7 +12,13 @@ returns c = rw (← c .before .before .before .before .passed .ensures, c .befor
 
 returns-2 : tie.Need-returns-2
 unfolding ppuWrite
-returns-2 c = rw (← c .before .before .before .before .before .before .before .before .before .before .before .before .before .before .before .before .before .passed .ensures, c .before .before .before .before .before .before .before .before .before .before .before .before .before .before .before .enum-told .given .1) (ap (afterOf _) (c .before .before .before .before .before .before .before .before .store .ensures _ ∙ rw (c .before .before .before .before .before .before .before .before .before .before .before .before .before .chr-word-at .ensures)))
+returns-2 c =
+    let at-store = c .before .before .before .before .before .before .before .before in
+    let at-chr-word-at = at-store .before .before .before .before .before in
+    rw (
+      ← at-chr-word-at .before .before .before .before .passed .ensures,
+      at-chr-word-at .before .before .enum-told .given .1,
+    ) (ap (afterOf _) (at-store .store .ensures _ ∙ rw (at-chr-word-at .chr-word-at .ensures)))
 
 pub ppu-write-spec : {M : Type 1} → statement M
 ppu-write-spec =

@@ -10,7 +10,15 @@ returns c = rw (← c .before .before .maps-chr .ensures, c .before .if1 .taken)
 
 returns-2 : tie.Need-returns-2
 unfolding chrPagesAfter
-returns-2 c = rw (← c .before .before .before .before .before .maps-chr .ensures, c .before .before .before .before .if1 .left, ← c .before .before .before .is-within .ensures, c .before .before .if2 .taken, ← c .before .nametable-use .ensures) (c .map-names .ensures)
+returns-2 c =
+    let at-if1 = c .before .before .before .before in
+    rw (
+      ← at-if1 .before .maps-chr .ensures,
+      at-if1 .if1 .left,
+      ← c .before .before .before .is-within .ensures,
+      c .before .before .if2 .taken,
+      ← c .before .nametable-use .ensures,
+    ) (c .map-names .ensures)
 
 returns-3 : tie.Need-returns-3
 unfolding chrPagesAfter

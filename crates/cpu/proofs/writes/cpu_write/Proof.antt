@@ -7,7 +7,17 @@ use Rattle.cpu.proofs.writes.cpu_write.Tie as tie
 
 returns : tie.Need-returns
 unfolding cpuStored
-returns c = (c .before .before .before .before .before .before .before .before .before .before .before .before .before .before .before .before .before .before .before .register-written .ensures, λ prg. c .before .before .before .before .before .before .before .before .store .ensures prg ∙ rw (c .before .before .before .before .before .before .before .before .before .before .before .before .before .before .before .before .before .latch .ensures, c .before .before .before .before .before .before .before .before .before .before .before .before .before .prg-word-at .ensures, c .before .before .before .before .before .before .before .before .before .before .before .before .before .before .before .before .before .before .before .register-written .ensures))
+returns c =
+    let at-store = c .before .before .before .before .before .before .before .before in
+    let at-prg-word-at = at-store .before .before .before .before .before in
+    let at-latch = at-prg-word-at .before .before .before .before in (
+      at-latch .before .before .register-written .ensures,
+      λ prg. at-store .store .ensures prg ∙ rw (
+        at-latch .latch .ensures,
+        at-prg-word-at .prg-word-at .ensures,
+        at-latch .before .before .register-written .ensures,
+      ),
+    )
 
 pub cpu-write-spec : {M : Type 1} → statement M
 cpu-write-spec =

@@ -12,11 +12,15 @@ sub-at c = from 0x5C00 0x5FFF _ (sym (c .before .is-within .ensures) ∙ and-lef
 
 returns : tie.Need-returns
 unfolding latched
-returns c = rw (← c .before .before .before .before .before .before .is-within .ensures, c .before .before .before .before .before .if1 .taken, c .before .before .before .before .if2 .taken) (c .before .before .put .ensures)
+returns c =
+    let at-if2 = c .before .before .before .before in
+    rw (← at-if2 .before .before .is-within .ensures, at-if2 .before .if1 .taken, at-if2 .if2 .taken) (c .before .before .put .ensures)
 
 returns-2 : tie.Need-returns-2
 unfolding latched
-returns-2 c = rw (← c .before .before .before .before .before .before .is-within .ensures, c .before .before .before .before .before .if1 .taken, c .before .before .before .before .if2 .left) (c .before .before .put2 .ensures)
+returns-2 c =
+    let at-if2 = c .before .before .before .before in
+    rw (← at-if2 .before .before .is-within .ensures, at-if2 .before .if1 .taken, at-if2 .if2 .left) (c .before .before .put2 .ensures)
 
 returns-3 : tie.Need-returns-3
 unfolding latched

@@ -16,7 +16,13 @@ returns c = rw (← c .before .before .maps-prg .ensures, c .before .if1 .taken)
 
 returns-2 : tie.Need-returns-2
 unfolding prgPagesAfter
-returns-2 c = rw (← c .before .before .before .maps-prg .ensures, c .before .before .if1 .left, eq-eqb _ _ (c .before .if2 .taken), c .exram-page .ensures)
+returns-2 c =
+    rw (
+      ← c .before .before .before .maps-prg .ensures,
+      c .before .before .if1 .left,
+      eq-eqb _ _ (c .before .if2 .taken),
+      c .exram-page .ensures,
+    )
 
 returns-3 : tie.Need-returns-3
 unfolding prgPagesAfter

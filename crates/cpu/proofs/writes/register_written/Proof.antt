@@ -6,7 +6,21 @@ use Rattle.cpu.proofs.writes.register_written.Tie as tie
 
 returns : tie.Need-returns
 unfolding registerWritten
-returns c = rw (c .chr-pages-after .ensures, c .before .before .prg-pages-after .ensures, c .before .before .before .before .chr-banks-after .ensures, c .before .before .before .before .before .before .prg-banks-after .ensures, c .before .before .before .before .before .before .before .before .mirroring-after .ensures, c .before .before .before .before .before .before .before .before .before .before .ppu-after .ensures, c .before .before .before .before .before .before .before .before .before .before .before .irq-after .ensures, c .before .before .before .before .before .before .before .before .before .before .before .before .split-after .ensures, c .before .before .before .before .before .before .before .before .before .before .before .before .before .write .ensures)
+returns c =
+    let at-chr-banks-after = c .before .before .before .before in
+    let at-mirroring-after = at-chr-banks-after .before .before .before .before in
+    let at-split-after = at-mirroring-after .before .before .before .before in
+    rw (
+      c .chr-pages-after .ensures,
+      c .before .before .prg-pages-after .ensures,
+      at-chr-banks-after .chr-banks-after .ensures,
+      at-chr-banks-after .before .before .prg-banks-after .ensures,
+      at-mirroring-after .mirroring-after .ensures,
+      at-mirroring-after .before .before .ppu-after .ensures,
+      at-mirroring-after .before .before .before .irq-after .ensures,
+      at-split-after .split-after .ensures,
+      at-split-after .before .write .ensures,
+    )
 
 pub register-written-spec : {M : Type 1} → statement M
 register-written-spec =

@@ -8,7 +8,14 @@ returns : tie.Need-returns
 returns c = memory-stays _ _ _ _ (c .before .is-good .ensures) (c .if1 .taken)
 
 returns-2 : tie.Need-returns-2
-returns-2 c = memory-left _ _ _ _ _ _ _ _ _ (c .before .before .before .before .before .before .before .before .before .before .before .before .before .before .before .before .before .before .before .before .before .before .before .before .before .before .before .before .before .before .before .before .before .is-good .ensures) (c .before .before .before .before .before .before .before .before .before .before .before .before .before .before .before .before .before .before .before .before .before .before .before .before .before .before .before .before .before .before .before .before .if1 .left) (c .before .before .before .before .before .before .before .before .before .before .before .before .before .before .before .before .before .before .before .before .before .before .before .before .state-of .ensures) (c .before .before .before .before .before .before .before .before .before .before .before .before .before .before .before .before .before .before .before .cpu-write .ensures) (c .before .put-state .ensures) (c .with-interrupt .ensures)
+returns-2 c =
+    let midway = c .before .before .before .before .before .before .before .before .before in
+    let at-cpu-write = midway .before .before .before .before .before .before .before .before .before .before in
+    let at-state-of = at-cpu-write .before .before .before .before .before in
+    let at-if1 = at-state-of .before .before .before .before .before .before .before .before in
+    let at-is-good = at-if1 .before in
+    memory-left _ _ _ _ _ _ _ _ _ (at-is-good .is-good .ensures) (at-if1 .if1 .left) (at-state-of .state-of .ensures)
+    (at-cpu-write .cpu-write .ensures) (c .before .put-state .ensures) (c .with-interrupt .ensures)
 
 pub mmc5-cpu-write-spec : {M : Type 1} → statement M
 mmc5-cpu-write-spec =

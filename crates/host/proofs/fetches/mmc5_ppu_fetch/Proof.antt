@@ -13,50 +13,132 @@ use Rattle.host.proofs.fetches.mmc5_ppu_fetch.Tie as tie
 
 returns : tie.Need-returns
 returns c =
-    let a = c .before .before .before .before .before .before .before .before .before .before .before .before .before .before .before .before .before .before .before .args in
-    let w = wordsAt (a .bytes .now) (a .halves .now) (a .wide .now) (a .«prg-banks» .now) (a .«chr-banks» .now) (a .«prg-pages» .now) (a .«chr-pages» .now) in
+    let at-gate = c .before .before in
+    let at-passed = at-gate .before .before in
+    let at-known = at-passed .before .before .before .before .before .before in
+    let a = at-known .before .before .before .before .before .before .before .before .before .args in
+    let w = wordsAt (a .bytes .now) (a .halves .now) (a .wide .now) (a .«prg-banks» .now) (a .«chr-banks» .now) (a .«prg-pages» .now)
+    (a .«chr-pages» .now) in
     let m = memOf (a .prg .now) (a .chr .now) (a .ram .now) (a .ciram .now) (a .exram .now) in
-    shut-left w m _ _ _ _ (c .before .before .before .before .before .before .before .before .before .before .known .ensures) (c .before .before .before .before .passed .ensures) (c .before .before .gate .given .1) (who-is-refused .fetch-shut _ _ _ _) (c .plain .ensures)
+    shut-left w m _ _ _ _ (at-known .known .ensures) (at-passed .passed .ensures) (at-gate .gate .given .1)
+    (who-is-refused .fetch-shut _ _ _ _) (c .plain .ensures)
 
 returns-2 : tie.Need-returns-2
 returns-2 c =
-    let a = c .before .before .before .before .before .before .before .before .before .before .before .before .before .before .before .before .before .before .before .before .before .before .before .before .before .before .before .args in
-    let w = wordsAt (a .bytes .now) (a .halves .now) (a .wide .now) (a .«prg-banks» .now) (a .«chr-banks» .now) (a .«prg-pages» .now) (a .«chr-pages» .now) in
+    let at-counter-refused = c .before .before in
+    let at-status-of = at-counter-refused .before in
+    let at-detector-of = at-status-of .before .before .before .before in
+    let at-enum-told = at-detector-of .before .before .before in
+    let at-passed = at-enum-told .before .before in
+    let at-known = at-passed .before .before .before .before .before .before in
+    let a = at-known .before .before .before .before .before .before .before .before .before .args in
+    let w = wordsAt (a .bytes .now) (a .halves .now) (a .wide .now) (a .«prg-banks» .now) (a .«chr-banks» .now) (a .«prg-pages» .now)
+    (a .«chr-pages» .now) in
     let m = memOf (a .prg .now) (a .chr .now) (a .ram .now) (a .ciram .now) (a .exram .now) in
-    refused-left w _ _ _ (open-sound w m _ (c .before .before .before .before .before .before .before .before .before .before .before .before .before .before .before .before .before .before .known .ensures) (c .before .before .before .before .before .before .before .before .before .before .before .before .passed .ensures) (c .before .before .before .before .before .before .before .before .before .before .enum-told .given .1))
-    (fetch-refused (stateOf w) m (opened w m _ (c .before .before .before .before .before .before .before .before .before .before .before .before .passed .ensures) (c .before .before .before .before .before .before .before .before .before .before .enum-told .given .1)) _ (not-refused (stateOf w) _ _ true _ _ (c .before .before .before .before .before .before .before .detector-of .ensures) (c .before .before .before .status-of .ensures) (c .before .before .counter-refused .ensures) (c .before .if1 .taken))) (c .plain2 .ensures)
+    let entered = opened w m _ (at-passed .passed .ensures) (at-enum-told .enum-told .given .1) in
+    let at-limit =
+    not-refused (stateOf w) _ _ true _ _ (at-detector-of .detector-of .ensures) (at-status-of .status-of .ensures)
+    (at-counter-refused .counter-refused .ensures) (c .before .if1 .taken)
+    in
+    refused-left w _ _ _ (open-sound w m _ (at-known .known .ensures) (at-passed .passed .ensures) (at-enum-told .enum-told .given .1))
+    (fetch-refused (stateOf w) m entered _ at-limit) (c .plain2 .ensures)
 
 count-fetch-requires : tie.Need-count-fetch-requires
 count-fetch-requires c κs =
-    let a = c .before .before .before .before .before .before .before .before .before .before .before .before .before .before .before .before .before .before .before .before .before .before .before .before .before .before .before .before .before .before .before .before .before .before .args in
-    let w = wordsAt (a .bytes .now) (a .halves .now) (a .wide .now) (a .«prg-banks» .now) (a .«chr-banks» .now) (a .«prg-pages» .now) (a .«chr-pages» .now) in
-    let m = memOf (a .prg .now) (a .chr .now) (a .ram .now) (a .ciram .now) (a .exram .now) in (
-      detector-ranged (stateOf w) m _ (opened w m _ (c .before .before .before .before .before .before .before .before .before .before .before .before .before .before .before .before .before .before .before .passed .ensures) (c .before .before .before .before .before .before .before .before .before .before .before .before .before .before .before .before .before .enum-told .given .1)) (c .before .before .before .before .before .before .before .before .before .before .before .before .before .before .detector-of .ensures),
+    let at-if1 = c .before .before .before .before .before .before .before .before in
+    let at-counter-refused = at-if1 .before in
+    let at-status-of = at-counter-refused .before in
+    let at-detector-of = at-status-of .before .before .before .before in
+    let at-enum-told = at-detector-of .before .before .before in
+    let at-passed = at-enum-told .before .before in
+    let at-known = at-passed .before .before .before .before .before .before in
+    let a = at-known .before .before .before .before .before .before .before .before .before .args in
+    let w = wordsAt (a .bytes .now) (a .halves .now) (a .wide .now) (a .«prg-banks» .now) (a .«chr-banks» .now) (a .«prg-pages» .now)
+    (a .«chr-pages» .now) in
+    let m = memOf (a .prg .now) (a .chr .now) (a .ram .now) (a .ciram .now) (a .exram .now) in
+    let entered = opened w m _ (at-passed .passed .ensures) (at-enum-told .enum-told .given .1) in (
+      detector-ranged (stateOf w) m _ entered (at-detector-of .detector-of .ensures),
       (
-        tiles-ranged (stateOf w) m _ (opened w m _ (c .before .before .before .before .before .before .before .before .before .before .before .before .before .before .before .before .before .before .before .passed .ensures) (c .before .before .before .before .before .before .before .before .before .before .before .before .before .before .before .before .before .enum-told .given .1)) (c .before .before .before .before .before .before .before .before .before .before .status-of .ensures),
-        ((sym (c .before .counted .ensures) ∙ c .if2 .taken), sym (c .before .before .before .before .before .before .before .before .before .counter-refused .ensures) ∙ c .before .before .before .before .before .before .before .before .if1 .left),
+        tiles-ranged (stateOf w) m _ entered (at-status-of .status-of .ensures),
+        ((sym (c .before .counted .ensures) ∙ c .if2 .taken), sym (at-counter-refused .counter-refused .ensures) ∙ at-if1 .if1 .left),
       ),
     )
 
 returns-3 : tie.Need-returns-3
 returns-3 c =
-    let a = c .before .before .before .before .before .before .before .before .before .before .before .before .before .before .before .before .before .before .before .before .before .before .before .before .before .before .before .before .before .before .before .before .before .before .before .before .before .before .before .before .before .before .before .before .before .before .before .before .before .before .before .args in
-    let w = wordsAt (a .bytes .now) (a .halves .now) (a .wide .now) (a .«prg-banks» .now) (a .«chr-banks» .now) (a .«prg-pages» .now) (a .«chr-pages» .now) in
+    let at-put-region = c .before in
+    let at-put-tiles = at-put-region .before .before .before in
+    let at-put-detector = at-put-tiles .before .before .before in
+    let at-counted-answer = at-put-detector .before .before .before in
+    let at-chr-word = at-counted-answer .before in
+    let at-count-fetch = at-chr-word .before .before .before .before .before in
+    let at-if2 = at-count-fetch .before in
+    let at-counted = at-if2 .before in
+    let at-split-of = at-counted .before in
+    let at-regs-of = at-split-of .before .before .before in
+    let at-if1 = at-regs-of .before .before .before in
+    let at-counter-refused = at-if1 .before in
+    let at-status-of = at-counter-refused .before in
+    let at-detector-of = at-status-of .before .before .before .before in
+    let at-enum-told = at-detector-of .before .before .before in
+    let at-passed = at-enum-told .before .before in
+    let at-known = at-passed .before .before .before .before .before .before in
+    let a = at-known .before .before .before .before .before .before .before .before .before .args in
+    let w = wordsAt (a .bytes .now) (a .halves .now) (a .wide .now) (a .«prg-banks» .now) (a .«chr-banks» .now) (a .«prg-pages» .now)
+    (a .«chr-pages» .now) in
     let m = memOf (a .prg .now) (a .chr .now) (a .ram .now) (a .ciram .now) (a .exram .now) in
-    counted-left w _ _ _ _ _ _ _ _ _ _ _ _ (open-sound w m _ (c .before .before .before .before .before .before .before .before .before .before .before .before .before .before .before .before .before .before .before .before .before .before .before .before .before .before .before .before .before .before .before .before .before .before .before .before .before .before .before .before .before .before .known .ensures) (c .before .before .before .before .before .before .before .before .before .before .before .before .before .before .before .before .before .before .before .before .before .before .before .before .before .before .before .before .before .before .before .before .before .before .before .before .passed .ensures) (c .before .before .before .before .before .before .before .before .before .before .before .before .before .before .before .before .before .before .before .before .before .before .before .before .before .before .before .before .before .before .before .before .before .before .enum-told .given .1)) (flags-kept _ _ _ _ _ _ (c .before .before .before .before .before .before .before .before .before .before .before .before .before .before .before .before .before .before .before .before .before .before .before .before .before .before .before .status-of .ensures) (c .before .before .before .before .before .before .before .before .before .before .before .before .before .before .before .before .count-fetch .ensures .1 .0)) (split-kept _ _ _ _ _ _ _ (c .before .before .before .before .before .before .before .before .before .before .before .before .before .before .before .before .before .before .before .split-of .ensures) (c .before .before .before .before .before .before .before .before .before .before .before .before .before .before .before .before .count-fetch .ensures .1 .1))
-    (counted-done (stateOf w) m _ _ _ _ _ (opened w m _ (c .before .before .before .before .before .before .before .before .before .before .before .before .before .before .before .before .before .before .before .before .before .before .before .before .before .before .before .before .before .before .before .before .before .before .before .before .passed .ensures) (c .before .before .before .before .before .before .before .before .before .before .before .before .before .before .before .before .before .before .before .before .before .before .before .before .before .before .before .before .before .before .before .before .before .before .enum-told .given .1)) (not-refused (stateOf w) _ _ false _ _ (c .before .before .before .before .before .before .before .before .before .before .before .before .before .before .before .before .before .before .before .before .before .before .before .before .before .before .before .before .before .before .before .detector-of .ensures) (c .before .before .before .before .before .before .before .before .before .before .before .before .before .before .before .before .before .before .before .before .before .before .before .before .before .before .before .status-of .ensures) (c .before .before .before .before .before .before .before .before .before .before .before .before .before .before .before .before .before .before .before .before .before .before .before .before .before .before .counter-refused .ensures) (c .before .before .before .before .before .before .before .before .before .before .before .before .before .before .before .before .before .before .before .before .before .before .before .before .before .if1 .left)) (c .before .before .before .before .before .before .before .before .before .before .before .before .before .before .before .before .before .before .before .before .before .before .regs-of .ensures) (c .before .before .before .before .before .before .before .before .before .before .before .before .before .before .before .before .before .before .before .before .before .before .before .before .before .before .before .before .before .before .before .detector-of .ensures) (c .before .before .before .before .before .before .before .before .before .before .before .before .before .before .before .before .before .before .before .before .before .before .before .before .before .before .before .status-of .ensures) (c .before .before .before .before .before .before .before .before .before .before .before .before .before .before .before .before .before .before .before .split-of .ensures) _ _ _ _ _ (sym (c .before .before .before .before .before .before .before .before .before .before .before .before .before .before .before .before .before .before .counted .ensures) ∙ c .before .before .before .before .before .before .before .before .before .before .before .before .before .before .before .before .before .if2 .taken)
-    (c .before .before .before .before .before .before .before .before .before .before .before .before .before .before .before .before .count-fetch .ensures .0) (c .before .before .before .before .before .before .before .before .before .before .before .before .before .before .before .before .count-fetch .ensures .1 .0) (c .before .before .before .before .before .before .before .before .before .before .before .before .before .before .before .before .count-fetch .ensures .1 .1) (c .before .before .before .before .before .before .before .before .before .before .before .chr-word .ensures) (c .before .before .before .before .before .before .before .before .before .before .counted-answer .ensures))
-    (c .before .before .before .before .before .before .before .put-detector .ensures .0) (c .before .before .before .before .before .before .before .put-detector .ensures .1)
-    (c .before .before .before .before .put-tiles .ensures .0) (c .before .before .before .before .put-tiles .ensures .1)
-    (c .before .put-region .ensures .0) (c .before .put-region .ensures .1) (c .with-interrupt .ensures)
+    let entered = opened w m _ (at-passed .passed .ensures) (at-enum-told .enum-told .given .1) in
+    let in-limit =
+    not-refused (stateOf w) _ _ false _ _ (at-detector-of .detector-of .ensures) (at-status-of .status-of .ensures)
+    (at-counter-refused .counter-refused .ensures) (at-if1 .if1 .left)
+    in
+    let done =
+    counted-done (stateOf w) m _ _ _ _ _ entered in-limit (at-regs-of .regs-of .ensures) (at-detector-of .detector-of .ensures)
+    (at-status-of .status-of .ensures) (at-split-of .split-of .ensures) _ _ _ _ _ (sym (at-counted .counted .ensures) ∙ at-if2 .if2 .taken)
+    (at-count-fetch .count-fetch .ensures .0) (at-count-fetch .count-fetch .ensures .1 .0) (at-count-fetch .count-fetch .ensures .1 .1)
+    (at-chr-word .chr-word .ensures) (at-counted-answer .counted-answer .ensures)
+    in
+    counted-left w _ _ _ _ _ _ _ _ _ _ _ _
+    (open-sound w m _ (at-known .known .ensures) (at-passed .passed .ensures) (at-enum-told .enum-told .given .1))
+    (flags-kept _ _ _ _ _ _ (at-status-of .status-of .ensures) (at-count-fetch .count-fetch .ensures .1 .0))
+    (split-kept _ _ _ _ _ _ _ (at-split-of .split-of .ensures) (at-count-fetch .count-fetch .ensures .1 .1))
+    done
+    (at-put-detector .put-detector .ensures .0) (at-put-detector .put-detector .ensures .1)
+    (at-put-tiles .put-tiles .ensures .0) (at-put-tiles .put-tiles .ensures .1)
+    (at-put-region .put-region .ensures .0) (at-put-region .put-region .ensures .1) (c .with-interrupt .ensures)
 
 returns-4 : tie.Need-returns-4
 returns-4 c =
-    let a = c .before .before .before .before .before .before .before .before .before .before .before .before .before .before .before .before .before .before .before .before .before .before .before .before .before .before .before .before .before .before .before .before .before .before .before .before .before .before .before .before .before .before .before .before .before .before .before .args in
-    let w = wordsAt (a .bytes .now) (a .halves .now) (a .wide .now) (a .«prg-banks» .now) (a .«chr-banks» .now) (a .«prg-pages» .now) (a .«chr-pages» .now) in
+    let at-other-answer = c .before .before .before in
+    let at-chr-word2 = at-other-answer .before in
+    let at-map-on-change = at-chr-word2 .before .before in
+    let at-chosen-at = at-map-on-change .before .before .before .before .before .before in
+    let at-if2 = at-chosen-at .before in
+    let at-counted = at-if2 .before in
+    let at-split-of = at-counted .before in
+    let at-regs-of = at-split-of .before .before .before in
+    let at-if1 = at-regs-of .before .before .before in
+    let at-counter-refused = at-if1 .before in
+    let at-status-of = at-counter-refused .before in
+    let at-detector-of = at-status-of .before .before .before .before in
+    let at-enum-told = at-detector-of .before .before .before in
+    let at-passed = at-enum-told .before .before in
+    let at-known = at-passed .before .before .before .before .before .before in
+    let a = at-known .before .before .before .before .before .before .before .before .before .args in
+    let w = wordsAt (a .bytes .now) (a .halves .now) (a .wide .now) (a .«prg-banks» .now) (a .«chr-banks» .now) (a .«prg-pages» .now)
+    (a .«chr-pages» .now) in
     let m = memOf (a .prg .now) (a .chr .now) (a .ram .now) (a .ciram .now) (a .exram .now) in
-    other-left w m _ _ _ _ _ _ _ _ _ _ _ (open-sound w m _ (c .before .before .before .before .before .before .before .before .before .before .before .before .before .before .before .before .before .before .before .before .before .before .before .before .before .before .before .before .before .before .before .before .before .before .before .before .before .before .known .ensures) (c .before .before .before .before .before .before .before .before .before .before .before .before .before .before .before .before .before .before .before .before .before .before .before .before .before .before .before .before .before .before .before .before .passed .ensures) (c .before .before .before .before .before .before .before .before .before .before .before .before .before .before .before .before .before .before .before .before .before .before .before .before .before .before .before .before .before .before .enum-told .given .1)) (opened w m _ (c .before .before .before .before .before .before .before .before .before .before .before .before .before .before .before .before .before .before .before .before .before .before .before .before .before .before .before .before .before .before .before .before .passed .ensures) (c .before .before .before .before .before .before .before .before .before .before .before .before .before .before .before .before .before .before .before .before .before .before .before .before .before .before .before .before .before .before .enum-told .given .1)) (not-refused (stateOf w) _ _ false _ _ (c .before .before .before .before .before .before .before .before .before .before .before .before .before .before .before .before .before .before .before .before .before .before .before .before .before .before .before .detector-of .ensures) (c .before .before .before .before .before .before .before .before .before .before .before .before .before .before .before .before .before .before .before .before .before .before .before .status-of .ensures) (c .before .before .before .before .before .before .before .before .before .before .before .before .before .before .before .before .before .before .before .before .before .before .counter-refused .ensures) (c .before .before .before .before .before .before .before .before .before .before .before .before .before .before .before .before .before .before .before .before .before .if1 .left)) (sym (c .before .before .before .before .before .before .before .before .before .before .before .before .before .before .counted .ensures) ∙ c .before .before .before .before .before .before .before .before .before .before .before .before .before .if2 .left)
-    (c .before .before .before .before .before .before .before .before .before .before .before .before .before .before .before .before .before .before .regs-of .ensures) (c .before .before .before .before .before .before .before .before .before .before .before .before .before .before .before .before .before .before .before .before .before .before .before .before .before .before .before .detector-of .ensures) (c .before .before .before .before .before .before .before .before .before .before .before .before .before .before .before .before .before .before .before .before .before .before .before .status-of .ensures) (c .before .before .before .before .before .before .before .before .before .before .before .before .before .before .before .split-of .ensures) (c .before .before .before .before .before .before .before .before .before .before .before .before .chosen-at .ensures) (c .before .before .before .before .before .before .map-on-change .ensures) (c .before .before .before .before .chr-word2 .ensures) (c .before .before .before .other-answer .ensures)
+    let entered = opened w m _ (at-passed .passed .ensures) (at-enum-told .enum-told .given .1) in
+    let in-limit =
+    not-refused (stateOf w) _ _ false _ _ (at-detector-of .detector-of .ensures) (at-status-of .status-of .ensures)
+    (at-counter-refused .counter-refused .ensures) (at-if1 .if1 .left)
+    in
+    other-left w m _ _ _ _ _ _ _ _ _ _ _
+    (open-sound w m _ (at-known .known .ensures) (at-passed .passed .ensures) (at-enum-told .enum-told .given .1))
+    entered in-limit (sym (at-counted .counted .ensures) ∙ at-if2 .if2 .left)
+    (at-regs-of .regs-of .ensures) (at-detector-of .detector-of .ensures) (at-status-of .status-of .ensures)
+    (at-split-of .split-of .ensures) (at-chosen-at .chosen-at .ensures) (at-map-on-change .map-on-change .ensures)
+    (at-chr-word2 .chr-word2 .ensures) (at-other-answer .other-answer .ensures)
     (c .before .put-set .ensures) (c .with-interrupt2 .ensures)
 
 pub mmc5-ppu-fetch-spec : {M : Type 1} → statement M

@@ -5,7 +5,7 @@ use Rattle.host.proofs.loads.mmc5_load.Statement.{statement}
 use Rattle.host.proofs.loads.mmc5_load.Tie as tie
 
 returns : tie.Need-returns
-returns c = load-left _ _ _ _ _ _ _ (c .before .before .before .before .before .before .before .before .before .before .before .load .ensures) (c .before .before .before .before .before .before .before .before .before .before .before .before .mirroring-numbered .ensures) (c .before .put-state .ensures) (c .with-interrupt .ensures)
+returns c = search load-left
 
 pub mmc5-load-spec : {M : Type 1} → statement M
 mmc5-load-spec =

@@ -11,28 +11,56 @@ use Rattle.host.proofs.reads.mmc5_cpu_read.Tie as tie
 
 returns : tie.Need-returns
 returns c =
-    let a = c .before .before .before .before .before .before .before .before .before .before .before .before .before .before .before .before .before .before .before .args in
-    let w = (wordsAt (a .bytes .now) (a .halves .now) (a .wide .now) (a .«prg-banks» .now) (a .«chr-banks» .now) (a .«prg-pages» .now) (a .«chr-pages» .now)) in
-    let m = (memOf (a .prg .now) (a .chr .now) (a .ram .now) (a .ciram .now) (a .exram .now)) in
-    shut-left w m _ _ _ _ (c .before .before .before .before .before .before .before .before .before .before .known .ensures) (c .before .before .before .before .passed .ensures) (c .before .before .gate .given .1) (who-is-refused .read-shut _ _ _ _) (c .plain .ensures)
+    let at-gate = c .before .before in
+    let at-passed = at-gate .before .before in
+    let at-known = at-passed .before .before .before .before .before .before in
+    let a = at-known .before .before .before .before .before .before .before .before .before .args in
+    let w = wordsAt (a .bytes .now) (a .halves .now) (a .wide .now) (a .«prg-banks» .now) (a .«chr-banks» .now) (a .«prg-pages» .now)
+    (a .«chr-pages» .now) in
+    let m = memOf (a .prg .now) (a .chr .now) (a .ram .now) (a .ciram .now) (a .exram .now) in
+    shut-left w m _ _ _ _ (at-known .known .ensures) (at-passed .passed .ensures) (at-gate .gate .given .1)
+    (who-is-refused .read-shut _ _ _ _) (c .plain .ensures)
 
 returns-2 : tie.Need-returns-2
 returns-2 c =
-    let a = c .before .before .before .before .before .before .before .before .before .before .before .before .before .before .before .before .before .before .before .before .args in
-    let w = (wordsAt (a .bytes .now) (a .halves .now) (a .wide .now) (a .«prg-banks» .now) (a .«chr-banks» .now) (a .«prg-pages» .now) (a .«chr-pages» .now)) in
-    let m = (memOf (a .prg .now) (a .chr .now) (a .ram .now) (a .ciram .now) (a .exram .now)) in
-    refused-left w _ _ _ (open-sound w m _ (c .before .before .before .before .before .before .before .before .before .before .before .known .ensures) (c .before .before .before .before .before .passed .ensures) (c .before .before .before .enum-told .given .1))
-    (read-refused (stateOf w) m (opened w m _ (c .before .before .before .before .before .passed .ensures) (c .before .before .before .enum-told .given .1)) _ (sym (c .before .before .audio-read .ensures) ∙ c .before .if1 .taken)) (c .plain2 .ensures)
+    let at-audio-read = c .before .before in
+    let at-enum-told = at-audio-read .before in
+    let at-passed = at-enum-told .before .before in
+    let at-known = at-passed .before .before .before .before .before .before in
+    let a = at-known .before .before .before .before .before .before .before .before .before .args in
+    let w = wordsAt (a .bytes .now) (a .halves .now) (a .wide .now) (a .«prg-banks» .now) (a .«chr-banks» .now) (a .«prg-pages» .now)
+    (a .«chr-pages» .now) in
+    let m = memOf (a .prg .now) (a .chr .now) (a .ram .now) (a .ciram .now) (a .exram .now) in
+    let entered = opened w m _ (at-passed .passed .ensures) (at-enum-told .enum-told .given .1) in
+    refused-left w _ _ _ (open-sound w m _ (at-known .known .ensures) (at-passed .passed .ensures) (at-enum-told .enum-told .given .1))
+    (read-refused (stateOf w) m entered _ (sym (at-audio-read .audio-read .ensures) ∙ c .before .if1 .taken))
+    (c .plain2 .ensures)
 
 returns-3 : tie.Need-returns-3
 returns-3 c =
-    let a = c .before .before .before .before .before .before .before .before .before .before .before .before .before .before .before .before .before .before .before .before .before .before .before .before .before .before .before .before .before .before .before .before .before .before .before .before .before .before .before .args in
-    let w = (wordsAt (a .bytes .now) (a .halves .now) (a .wide .now) (a .«prg-banks» .now) (a .«chr-banks» .now) (a .«prg-pages» .now) (a .«chr-pages» .now)) in
-    let m = (memOf (a .prg .now) (a .chr .now) (a .ram .now) (a .ciram .now) (a .exram .now)) in
-    irq-left w _ _ _ _ _ _ (open-sound w m _ (c .before .before .before .before .before .before .before .before .before .before .before .before .before .before .before .before .before .before .before .before .before .before .before .before .before .before .before .before .before .before .known .ensures) (c .before .before .before .before .before .before .before .before .before .before .before .before .before .before .before .before .before .before .before .before .before .before .before .before .passed .ensures) (c .before .before .before .before .before .before .before .before .before .before .before .before .before .before .before .before .before .before .before .before .before .before .enum-told .given .1))
-    (read-done (stateOf w) m _ _ _ _ _ _ _ _ (opened w m _ (c .before .before .before .before .before .before .before .before .before .before .before .before .before .before .before .before .before .before .before .before .before .before .before .before .passed .ensures) (c .before .before .before .before .before .before .before .before .before .before .before .before .before .before .before .before .before .before .before .before .before .before .enum-told .given .1)) (sym (c .before .before .before .before .before .before .before .before .before .before .before .before .before .before .before .before .before .before .before .before .before .audio-read .ensures) ∙ c .before .before .before .before .before .before .before .before .before .before .before .before .before .before .before .before .before .before .before .before .if1 .left)
-    (c .before .before .before .before .before .before .before .before .before .before .before .before .before .before .before .prg-word .ensures) (c .before .before .before .before .before .before .before .before .before .before .before .before .before .before .page-answer .ensures) (c .before .before .before .before .before .before .before .before .before .before .before .regs-of .ensures) (c .before .before .before .before .before .before .before .before .split-of .ensures) (c .before .before .before .before .before .before .before .before .before .before .before .before .before .before .before .before .before .detector-of .ensures) (c .before .before .before .before .before .register-or .ensures) (c .before .before .before .before .irq-read .ensures))
-    (c .before .put-detector .ensures .0) (c .before .put-detector .ensures .1) (c .with-interrupt .ensures)
+    let at-put-detector = c .before in
+    let at-irq-read = at-put-detector .before .before .before in
+    let at-register-or = at-irq-read .before in
+    let at-split-of = at-register-or .before .before .before in
+    let at-regs-of = at-split-of .before .before .before in
+    let at-page-answer = at-regs-of .before .before .before in
+    let at-prg-word = at-page-answer .before in
+    let at-detector-of = at-prg-word .before .before in
+    let at-if1 = at-detector-of .before .before .before in
+    let at-audio-read = at-if1 .before in
+    let at-enum-told = at-audio-read .before in
+    let at-passed = at-enum-told .before .before in
+    let at-known = at-passed .before .before .before .before .before .before in
+    let a = at-known .before .before .before .before .before .before .before .before .before .args in
+    let w = wordsAt (a .bytes .now) (a .halves .now) (a .wide .now) (a .«prg-banks» .now) (a .«chr-banks» .now) (a .«prg-pages» .now)
+    (a .«chr-pages» .now) in
+    let m = memOf (a .prg .now) (a .chr .now) (a .ram .now) (a .ciram .now) (a .exram .now) in
+    let entered = opened w m _ (at-passed .passed .ensures) (at-enum-told .enum-told .given .1) in
+    irq-left w _ _ _ _ _ _ (open-sound w m _ (at-known .known .ensures) (at-passed .passed .ensures) (at-enum-told .enum-told .given .1))
+    (read-done (stateOf w) m _ _ _ _ _ _ _ _ entered (sym (at-audio-read .audio-read .ensures) ∙ at-if1 .if1 .left)
+    (at-prg-word .prg-word .ensures) (at-page-answer .page-answer .ensures) (at-regs-of .regs-of .ensures) (at-split-of .split-of .ensures)
+    (at-detector-of .detector-of .ensures) (at-register-or .register-or .ensures) (at-irq-read .irq-read .ensures))
+    (at-put-detector .put-detector .ensures .0) (at-put-detector .put-detector .ensures .1) (c .with-interrupt .ensures)
 
 pub mmc5-cpu-read-spec : {M : Type 1} → statement M
 mmc5-cpu-read-spec =

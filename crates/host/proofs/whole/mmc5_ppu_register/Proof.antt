@@ -8,7 +8,13 @@ returns : tie.Need-returns
 returns c = words-stay _ _ _ (c .before .is-good .ensures) (c .if1 .taken)
 
 returns-2 : tie.Need-returns-2
-returns-2 c = words-left _ _ _ _ _ _ _ (c .before .before .before .before .before .before .before .before .before .before .before .before .before .before .before .before .before .before .before .before .before .is-good .ensures) (c .before .before .before .before .before .before .before .before .before .before .before .before .before .before .before .before .before .before .before .before .if1 .left) (c .before .before .before .before .before .before .before .before .before .before .before .before .state-of .ensures) (c .before .before .before .before .before .before .before .before .before .before .before .ppu-register .ensures) (c .before .put-state .ensures) (c .with-interrupt .ensures)
+returns-2 c =
+    let at-ppu-register = c .before .before .before .before .before .before .before .before .before .before .before in
+    let at-state-of = at-ppu-register .before in
+    let at-if1 = at-state-of .before .before .before .before .before .before .before .before in
+    let at-is-good = at-if1 .before in
+    words-left _ _ _ _ _ _ _ (at-is-good .is-good .ensures) (at-if1 .if1 .left) (at-state-of .state-of .ensures)
+    (at-ppu-register .ppu-register .ensures) (c .before .put-state .ensures) (c .with-interrupt .ensures)
 
 pub mmc5-ppu-register-spec : {M : Type 1} → statement M
 mmc5-ppu-register-spec =

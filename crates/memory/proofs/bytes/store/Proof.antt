@@ -9,8 +9,10 @@ use Rattle.memory.proofs.bytes.store.Tie as tie
 returns : tie.Need-returns
 unfolding pageStored
 returns c =
-    let taken = sym (ap (λ (p : Page). p .writable) (c .before .before .before .before .before .before .before .before .before .before .before .before .before .before .before .page-of .ensures)) ∙ c .before .before .before .before .before .before .before .before .before .before .before .before .before .before .if1 .taken in
-    λ prg. c .before .before .before .before .before .before .before .before .store-at .ensures prg ∙ rw (c .before .before .before .before .before .before .before .before .before .before .before .before .before .place-of .ensures, taken)
+    let at-store-at = c .before .before .before .before .before .before .before .before in
+    let at-place-of = at-store-at .before .before .before .before .before in
+    let taken = sym (ap (λ (p : Page). p .writable) (at-place-of .before .before .page-of .ensures)) ∙ at-place-of .before .if1 .taken in
+    λ prg. at-store-at .store-at .ensures prg ∙ rw (at-place-of .place-of .ensures, taken)
 
 returns-2 : tie.Need-returns-2
 unfolding pageStored

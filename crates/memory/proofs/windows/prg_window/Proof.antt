@@ -28,7 +28,8 @@ next-start-requires c κs =
 
 loop-again : tie.Need-loop-again Inv-loop μ-loop
 loop-again c =
-    fill-next _ _ _ _ _ _ _ _ _ (c .before .before .before .loop .inv) (c .before .before .loop-test .taken) (c .before .before .before .before .before .before .pre) (c .before .word-of .ensures) (c .next-start .ensures)
+    fill-next _ _ _ _ _ _ _ _ _ (c .before .before .before .loop .inv) (c .before .before .loop-test .taken)
+    (c .before .before .before .before .before .before .pre) (c .before .word-of .ensures) (c .next-start .ensures)
 
 returns-2 : tie.Need-returns-2 Inv-loop μ-loop
 returns-2 c = fill-last _ _ _ _ _ _ _ (c .before .loop .inv) (search needs)

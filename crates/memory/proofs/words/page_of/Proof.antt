@@ -19,19 +19,50 @@ returns-3 c = simp (le-ltb _ _ (c .before .before .if1 .left), le-ltb _ _ (c .be
 
 returns-4 : tie.Need-returns-4
 unfolding pageOf
-returns-4 c = simp (le-ltb _ _ (c .before .before .before .if1 .left), le-ltb _ _ (c .before .before .if2 .left), le-ltb _ _ (c .before .if3 .left), lt-ltb _ _ (c .if4 .taken))
+returns-4 c =
+    simp (
+      le-ltb _ _ (c .before .before .before .if1 .left),
+      le-ltb _ _ (c .before .before .if2 .left),
+      le-ltb _ _ (c .before .if3 .left),
+      lt-ltb _ _ (c .if4 .taken),
+    )
 
 returns-5 : tie.Need-returns-5
 unfolding pageOf
-returns-5 c = simp (le-ltb _ _ (c .before .before .before .before .if1 .left), le-ltb _ _ (c .before .before .before .if2 .left), le-ltb _ _ (c .before .before .if3 .left), le-ltb _ _ (c .before .if4 .left), lt-ltb _ _ (c .if5 .taken))
+returns-5 c =
+    simp (
+      le-ltb _ _ (c .before .before .before .before .if1 .left),
+      le-ltb _ _ (c .before .before .before .if2 .left),
+      le-ltb _ _ (c .before .before .if3 .left),
+      le-ltb _ _ (c .before .if4 .left),
+      lt-ltb _ _ (c .if5 .taken),
+    )
 
 returns-6 : tie.Need-returns-6
 unfolding pageOf
-returns-6 c = simp (le-ltb _ _ (c .before .before .before .before .before .if1 .left), le-ltb _ _ (c .before .before .before .before .if2 .left), le-ltb _ _ (c .before .before .before .if3 .left), le-ltb _ _ (c .before .before .if4 .left), le-ltb _ _ (c .before .if5 .left), lt-ltb _ _ (c .if6 .taken))
+returns-6 c =
+    let at-if2 = c .before .before .before .before in
+    simp (
+      le-ltb _ _ (at-if2 .before .if1 .left),
+      le-ltb _ _ (at-if2 .if2 .left),
+      le-ltb _ _ (c .before .before .before .if3 .left),
+      le-ltb _ _ (c .before .before .if4 .left),
+      le-ltb _ _ (c .before .if5 .left),
+      lt-ltb _ _ (c .if6 .taken),
+    )
 
 returns-7 : tie.Need-returns-7
 unfolding pageOf
-returns-7 c = simp (le-ltb _ _ (c .before .before .before .before .before .if1 .left), le-ltb _ _ (c .before .before .before .before .if2 .left), le-ltb _ _ (c .before .before .before .if3 .left), le-ltb _ _ (c .before .before .if4 .left), le-ltb _ _ (c .before .if5 .left), le-ltb _ _ (c .if6 .left))
+returns-7 c =
+    let at-if2 = c .before .before .before .before in
+    simp (
+      le-ltb _ _ (at-if2 .before .if1 .left),
+      le-ltb _ _ (at-if2 .if2 .left),
+      le-ltb _ _ (c .before .before .before .if3 .left),
+      le-ltb _ _ (c .before .before .if4 .left),
+      le-ltb _ _ (c .before .if5 .left),
+      le-ltb _ _ (c .if6 .left),
+    )
 
 pub page-of-spec : {M : Type 1} → statement M
 page-of-spec =

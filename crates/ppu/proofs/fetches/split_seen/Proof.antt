@@ -8,15 +8,35 @@ use Rattle.ppu.proofs.fetches.split_seen.Statement.{statement}
 use Rattle.ppu.proofs.fetches.split_seen.Tie as tie
 
 cast-column : tie.Need-cast-column
-cast-column c = let b : c .column .result < 42 = rw (c .column .ensures) (column-below (c .before .before .before .before .before .args .tiles)) in omega arith
+cast-column c =
+    let b : c .column .result < 42 = rw (c .column .ensures) (column-below (c .before .before .before .before .before .args .tiles)) in
+    omega arith
 
 returns : tie.Need-returns
 unfolding splitSeen
-returns c = rw (← c .before .before .before .before .before .before .before .before .nametable-use .ensures, ← c .before .before .before .before .before .before .before .active .ensures, ← c .before .before .before .before .before .before .name-fetch .ensures, c .before .before .before .before .before .if1 .taken, c .moved .ensures, c .before .scroll-of .ensures, c .before .before .prefetched .ensures, c .before .before .before .first-tiles .ensures, c .before .before .before .before .column .ensures)
+returns c =
+    let at-column = c .before .before .before .before in
+    rw (
+      ← at-column .before .before .before .before .nametable-use .ensures,
+      ← at-column .before .before .before .active .ensures,
+      ← at-column .before .before .name-fetch .ensures,
+      at-column .before .if1 .taken,
+      c .moved .ensures,
+      c .before .scroll-of .ensures,
+      c .before .before .prefetched .ensures,
+      c .before .before .before .first-tiles .ensures,
+      at-column .column .ensures,
+    )
 
 returns-2 : tie.Need-returns-2
 unfolding splitSeen
-returns-2 c = rw (← c .before .before .before .nametable-use .ensures, ← c .before .before .active .ensures, ← c .before .name-fetch .ensures, c .if1 .left)
+returns-2 c =
+    rw (
+      ← c .before .before .before .nametable-use .ensures,
+      ← c .before .before .active .ensures,
+      ← c .before .name-fetch .ensures,
+      c .if1 .left,
+    )
 
 pub split-seen-spec : {M : Type 1} → statement M
 split-seen-spec =

@@ -6,19 +6,67 @@ use Rattle.ppu.proofs.served.counted_served.Tie as tie
 
 returns : tie.Need-returns
 unfolding countedServed
-returns c = rw (← c .before .before .before .before .before .before .nametable-use .ensures, ← c .before .before .before .before .active .ensures, c .before .before .if1 .taken, c .split-byte .ensures, c .before .name-fetch .ensures)
+returns c =
+    let at-active = c .before .before .before .before in
+    rw (
+      ← at-active .before .before .nametable-use .ensures,
+      ← at-active .active .ensures,
+      c .before .before .if1 .taken,
+      c .split-byte .ensures,
+      c .before .name-fetch .ensures,
+    )
 
 returns-2 : tie.Need-returns-2
 unfolding countedServed
-returns-2 c = rw (← c .before .before .before .before .before .before .before .before .before .before .nametable-use .ensures, ← c .before .before .before .before .before .before .before .before .active .ensures, c .before .before .before .before .before .before .if1 .left, ← c .before .before .before .before .attribute-use .ensures, ← c .before .before .before .before .before .before .before .before .before .attribute-address .ensures, ← c .before .before .before .before .before .sprite-fetch .ensures, c .before .before .before .if2 .taken, c .mirrored .ensures, c .before .byte .ensures)
+returns-2 c =
+    let at-attribute-use = c .before .before .before .before in
+    let at-active = at-attribute-use .before .before .before .before in
+    rw (
+      ← at-active .before .before .nametable-use .ensures,
+      ← at-active .active .ensures,
+      at-attribute-use .before .before .if1 .left,
+      ← at-attribute-use .attribute-use .ensures,
+      ← at-active .before .attribute-address .ensures,
+      ← at-attribute-use .before .sprite-fetch .ensures,
+      c .before .before .before .if2 .taken,
+      c .mirrored .ensures,
+      c .before .byte .ensures,
+    )
 
 returns-3 : tie.Need-returns-3
 unfolding countedServed
-returns-3 c = rw (← c .before .before .before .before .before .before .before .before .before .before .nametable-use .ensures, ← c .before .before .before .before .before .before .before .before .active .ensures, c .before .before .before .before .before .before .if1 .left, ← c .before .before .before .before .attribute-use .ensures, ← c .before .before .before .before .before .before .before .before .before .attribute-address .ensures, ← c .before .before .before .before .before .sprite-fetch .ensures, c .before .before .before .if2 .left, ← c .before .before .selector-of .ensures, c .before .if3 .taken, c .fill-byte .ensures)
+returns-3 c =
+    let at-attribute-use = c .before .before .before .before in
+    let at-active = at-attribute-use .before .before .before .before in
+    rw (
+      ← at-active .before .before .nametable-use .ensures,
+      ← at-active .active .ensures,
+      at-attribute-use .before .before .if1 .left,
+      ← at-attribute-use .attribute-use .ensures,
+      ← at-active .before .attribute-address .ensures,
+      ← at-attribute-use .before .sprite-fetch .ensures,
+      c .before .before .before .if2 .left,
+      ← c .before .before .selector-of .ensures,
+      c .before .if3 .taken,
+      c .fill-byte .ensures,
+    )
 
 returns-4 : tie.Need-returns-4
 unfolding countedServed
-returns-4 c = rw (← c .before .before .before .before .before .before .before .before .before .nametable-use .ensures, ← c .before .before .before .before .before .before .before .active .ensures, c .before .before .before .before .before .if1 .left, ← c .before .before .before .attribute-use .ensures, ← c .before .before .before .before .before .before .before .before .attribute-address .ensures, ← c .before .before .before .before .sprite-fetch .ensures, c .before .before .if2 .left, ← c .before .selector-of .ensures, c .if3 .left)
+returns-4 c =
+    let at-sprite-fetch = c .before .before .before .before in
+    let at-attribute-address = at-sprite-fetch .before .before .before .before in
+    rw (
+      ← at-attribute-address .before .nametable-use .ensures,
+      ← at-sprite-fetch .before .before .before .active .ensures,
+      at-sprite-fetch .before .if1 .left,
+      ← c .before .before .before .attribute-use .ensures,
+      ← at-attribute-address .attribute-address .ensures,
+      ← at-sprite-fetch .sprite-fetch .ensures,
+      c .before .before .if2 .left,
+      ← c .before .selector-of .ensures,
+      c .if3 .left,
+    )
 
 pub counted-served-spec : {M : Type 1} → statement M
 counted-served-spec =

@@ -10,7 +10,15 @@ returns c = rw (c .before .if1 .taken) (c .byte .ensures)
 
 returns-2 : tie.Need-returns-2
 unfolding splitByte
-returns-2 c = rw (c .before .before .before .before .before .if1 .left, c .mirrored .ensures, c .before .attribute-bits .ensures, c .before .before .byte2 .ensures, c .before .before .before .before .attribute-place .ensures)
+returns-2 c =
+    let at-attribute-place = c .before .before .before .before in
+    rw (
+      at-attribute-place .before .if1 .left,
+      c .mirrored .ensures,
+      c .before .attribute-bits .ensures,
+      c .before .before .byte2 .ensures,
+      at-attribute-place .attribute-place .ensures,
+    )
 
 pub split-byte-spec : {M : Type 1} → statement M
 split-byte-spec =

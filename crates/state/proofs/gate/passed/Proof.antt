@@ -14,11 +14,25 @@ returns-2 c = rw (c .before .before .if1 .left, ← c .before .same-lengths .ens
 
 returns-3 : tie.Need-returns-3
 unfolding gateOf
-returns-3 c = rw (c .before .before .before .before .if1 .left, ← c .before .before .before .same-lengths .ensures, c .before .before .if2 .left, ← c .before .in-range .ensures, c .if3 .taken)
+returns-3 c =
+    rw (
+      c .before .before .before .before .if1 .left,
+      ← c .before .before .before .same-lengths .ensures,
+      c .before .before .if2 .left,
+      ← c .before .in-range .ensures,
+      c .if3 .taken,
+    )
 
 returns-4 : tie.Need-returns-4
 unfolding gateOf
-returns-4 c = rw (c .before .before .before .before .if1 .left, ← c .before .before .before .same-lengths .ensures, c .before .before .if2 .left, ← c .before .in-range .ensures, c .if3 .left)
+returns-4 c =
+    rw (
+      c .before .before .before .before .if1 .left,
+      ← c .before .before .before .same-lengths .ensures,
+      c .before .before .if2 .left,
+      ← c .before .in-range .ensures,
+      c .if3 .left,
+    )
 
 pub passed-spec : {M : Type 1} → statement M
 passed-spec =

@@ -6,7 +6,9 @@ use Rattle.state.proofs.sizes.lengths_ok.Tie as tie
 
 returns : tie.Need-returns
 unfolding lengthsOk
-returns c = rw (c .before .before .before .before .before .before .before .prg-taken .ensures, c .before .before .before .before .before .chr-taken .ensures, c .before .ram-taken .ensures)
+returns c =
+    let at-chr-taken = c .before .before .before .before .before in
+    rw (at-chr-taken .before .before .prg-taken .ensures, at-chr-taken .chr-taken .ensures, c .before .ram-taken .ensures)
 
 pub lengths-ok-spec : {M : Type 1} → statement M
 lengths-ok-spec =
