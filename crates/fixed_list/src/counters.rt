@@ -1,23 +1,29 @@
 // The counters of a case: the line counter in two bytes and the tile count in four, low ones first. No short trace comes near their limits.
+ghost use mathlib.Core.Path.{_≡_};
 ghost use Prim.Native.Nat.{_<_};
 ghost use lib.ListN.{length};
+ghost use Rattle.fixed_list.specs.Counters.{lineOf, tileOf, inFrame, startOf};
 use crate::head::COUNTERS;
 use crate::head::two;
 use state::State;
 
 fn line_of(b: &[u8]) -> u16
     requires { ⌜ 5 < length (now b) ⌝ }
+    ensures { λ r. ⌜ r ≡ lineOf (now (b .entry)) ⌝ }
 {
     two(b[0], b[1]) as u16
 }
 
 fn tile_of(b: &[u8]) -> u32
     requires { ⌜ 5 < length (now b) ⌝ }
+    ensures { λ r. ⌜ r ≡ tileOf (now (b .entry)) ⌝ }
 {
     (two(b[2], b[3]) + two(b[4], b[5]) * 65536) as u32
 }
 
-fn in_frame(s: State, line: u16, tile: u32) -> State {
+fn in_frame(s: State, line: u16, tile: u32) -> State
+    ensures { λ r. ⌜ r ≡ inFrame line tile s ⌝ }
+{
     let mut t = s;
     t.irq.in_frame = true;
     t.irq.scanline = line;
@@ -26,7 +32,9 @@ fn in_frame(s: State, line: u16, tile: u32) -> State {
 }
 
 // The state in frame with the case's counters, where it has some.
-pub fn start(kind: u8, b: &[u8], s: State) -> State {
+pub fn start(kind: u8, b: &[u8], s: State) -> State
+    ensures { λ r. ⌜ r ≡ startOf kind (now (b .entry)) s ⌝ }
+{
     if kind != COUNTERS {
         return s;
     }

@@ -1,5 +1,6 @@
 // The first bytes of a case: its cartridge, and how long its trace is.
-ghost use Prim.Native.Nat.{_≤_};
+ghost use mathlib.Core.Path.{_≡_};
+ghost use Prim.Native.Nat.{_+_, _*_, _≤_};
 ghost use lib.ListN.{length};
 use registers::Mirroring;
 
@@ -23,14 +24,14 @@ pub struct Head {
 }
 
 pub fn wide(x: u8) -> usize
-    ensures { λ r. ⌜ r ≤ 255 ⌝ }
+    ensures { λ r. ⌜ (r ≡ x) × (r ≤ 255) ⌝ }
 {
     x as usize
 }
 
 // A number of two bytes, low one first.
 pub fn two(low: u8, high: u8) -> usize
-    ensures { λ r. ⌜ r ≤ 65535 ⌝ }
+    ensures { λ r. ⌜ (r ≡ low + high * 256) × (r ≤ 65535) ⌝ }
 {
     wide(low) + wide(high) * 256
 }
