@@ -9,6 +9,24 @@ returns : tie.Need-returns
 unfolding ppuView
 returns c = rw (← c .before .before .before .passed .ensures, c .before .enum-told .given .1)
 
+returns-2 : tie.Need-returns-2
+returns-2 c = search (needs, ppu-shown)
+
+returns-3 : tie.Need-returns-3
+returns-3 c = search (needs, ppu-shown)
+
+returns-4 : tie.Need-returns-4
+returns-4 c = search (needs, ppu-shown)
+
+returns-5 : tie.Need-returns-5
+returns-5 c = search (needs, ppu-shown)
+
+returns-6 : tie.Need-returns-6
+returns-6 c = search (needs, ppu-shown)
+
+returns-7 : tie.Need-returns-7
+returns-7 c = search (needs, ppu-shown)
+
 pub ppu-view-spec : {M : Type 1} → statement M
 ppu-view-spec =
     tie.close
@@ -16,5 +34,4 @@ ppu-view-spec =
     (λ c κs. search needs) (λ c. search needs) (λ c. search needs) returns (λ c. search needs) (λ c κs. search needs)
     (λ c κs. search needs) (λ c. search needs) (λ c. search needs) (λ c. search needs) (λ c. search needs) (λ c. search needs)
     (λ c. search needs) (λ c. search needs) (λ c. search needs) (λ c. search needs) (λ c κs. search needs) (λ c. search needs)
-    (λ c. search needs) (λ c. search needs) (λ c. search needs) (λ c. search (needs, ppu-shown)) (λ c. search (needs, ppu-shown))
-    (λ c. search (needs, ppu-shown)) (λ c. search (needs, ppu-shown)) (λ c. search (needs, ppu-shown)) (λ c. search (needs, ppu-shown)))
+    (λ c. search needs) (λ c. search needs) (λ c. search needs) returns-2 returns-3 returns-4 returns-5 returns-6 returns-7)
