@@ -20,7 +20,9 @@ loop-holds : tie.Need-loop-holds Inv-loop μ-loop
 loop-holds c = test-first _ _
 
 loop-again : tie.Need-loop-again Inv-loop μ-loop
-loop-again c = numbers-next _ (c .before .before .before .before .args .numbers .now) _ _ 16 _ (c .before .before .before .loop .inv) (c .before .before .loop-test .taken) (search needs) (c .chr-word-ok .ensures)
+loop-again c =
+    numbers-next _ (c .before .before .before .before .args .numbers .now) _ _ 16 _ (c .before .before .before .loop .inv)
+    (c .before .before .loop-test .taken) (search needs) (c .chr-word-ok .ensures)
 
 returns : tie.Need-returns Inv-loop μ-loop
 returns c = numbers-last _ (c .before .before .args .numbers .now) _ _ 16 (c .before .loop .inv) (c .loop-test .left) (search needs)

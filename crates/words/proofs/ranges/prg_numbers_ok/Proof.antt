@@ -16,10 +16,16 @@ loop-holds c = furthest-first (c .args .«prg-len») (c .args .«ram-len») (c .
 
 loop-again : tie.Need-loop-again Inv-loop μ-loop
 loop-again c =
-    furthest-next _ _ (c .before .before .before .before .before .pre .0) (c .before .before .before .before .before .pre .1 .0) (c .before .before .before .before .before .args .numbers .now) _ _ _ _ (c .before .before .before .before .loop .inv) (c .before .before .before .loop-test .taken) (c .before .before .before .before .before .pre .1 .1) (c .before .prg-place .ensures .1) (c .before .prg-place .ensures .0) (c .larger .ensures)
+    let at-loop = c .before .before .before .before in
+    furthest-next _ _ (at-loop .before .pre .0) (at-loop .before .pre .1 .0) (at-loop .before .args .numbers .now) _ _ _ _
+    (at-loop .loop .inv) (c .before .before .before .loop-test .taken) (at-loop .before .pre .1 .1) (c .before .prg-place .ensures .1)
+    (c .before .prg-place .ensures .0) (c .larger .ensures)
 
 returns : tie.Need-returns Inv-loop μ-loop
-returns c = furthest-last _ _ (c .before .before .before .pre .0) (c .before .before .before .pre .1 .0) (c .before .before .before .args .numbers .now) _ _ _ (c .before .before .loop .inv) (c .before .loop-test .left) (c .before .before .before .pre .1 .1) (c .prg-places .ensures)
+returns c =
+    furthest-last _ _ (c .before .before .before .pre .0) (c .before .before .before .pre .1 .0)
+    (c .before .before .before .args .numbers .now) _ _ _ (c .before .before .loop .inv) (c .before .loop-test .left)
+    (c .before .before .before .pre .1 .1) (c .prg-places .ensures)
 
 pub prg-numbers-ok-spec : {M : Type 1} → statement M
 prg-numbers-ok-spec =

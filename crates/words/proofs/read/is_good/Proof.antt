@@ -17,10 +17,17 @@ loop-holds c = (largest-first (c .before .before .args .bytes .now), omega arith
 
 loop-again : tie.Need-loop-again Inv-loop μ-loop
 loop-again c =
-    (largest-next (c .before .before .before .before .before .before .args .bytes .now) _ _ _ (c .before .before .before .loop .inv .0) (c .before .before .loop-test .taken) (c .before .before .before .before .thirty-three .ensures) (c .larger .ensures), omega (arith, c .before .before .loop-test .taken))
+    let at-thirty-three = c .before .before .before .before in (
+      largest-next (at-thirty-three .before .before .args .bytes .now) _ _ _ (c .before .before .before .loop .inv .0)
+          (c .before .before .loop-test .taken) (at-thirty-three .thirty-three .ensures) (c .larger .ensures),
+      omega (arith, c .before .before .loop-test .taken),
+    )
 
 returns : tie.Need-returns Inv-loop μ-loop
-returns c = largest-last (c .before .before .before .before .before .args .bytes .now) (c .before .before .loop .largest) _ (c .before .before .loop .inv .0) (c .before .loop-test .left) (c .before .before .loop .inv .1) (c .before .before .before .thirty-three .ensures)
+returns c =
+    largest-last (c .before .before .before .before .before .args .bytes .now) (c .before .before .loop .largest) _
+    (c .before .before .loop .inv .0) (c .before .loop-test .left) (c .before .before .loop .inv .1)
+    (c .before .before .before .thirty-three .ensures)
 
 pub is-good-spec : {M : Type 1} → statement M
 is-good-spec =
