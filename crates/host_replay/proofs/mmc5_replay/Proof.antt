@@ -8,13 +8,25 @@ returns : tie.Need-returns
 returns c = too-long-stays _ _ _ _ _ (c .before .too-long .ensures) (c .if1 .taken)
 
 returns-2 : tie.Need-returns-2
-returns-2 c = no-state-stays _ _ _ _ _ _ (c .before .before .before .before .too-long .ensures) (c .before .before .before .if1 .left) (c .before .is-good .ensures) (c .if2 .taken)
+returns-2 c =
+    no-state-stays _ _ _ _ _ _ (c .before .before .before .before .too-long .ensures) (c .before .before .before .if1 .left)
+    (c .before .is-good .ensures) (c .if2 .taken)
 
 told-requires : tie.Need-told-requires
-told-requires c κs = short-ending _ _ _ _ _ _ _ (c .before .before .before .before .before .before .before .before .before .before .before .before .before .before .before .before .before .before .before .replay .ensures)
+told-requires c κs =
+    let midway = c .before .before .before .before .before .before .before .before .before in
+    let at-replay = midway .before .before .before .before .before .before .before .before .before .before in
+    short-ending _ _ _ _ _ _ _ (at-replay .replay .ensures)
 
 returns-3 : tie.Need-returns-3
-returns-3 c = replay-left _ _ _ _ _ _ _ _ _ _ _ _ (c .before .before .before .before .before .before .before .before .before .before .before .before .before .before .before .before .before .before .before .before .before .before .before .before .before .before .before .before .before .before .before .before .before .before .before .before .before .before .too-long .ensures) (c .before .before .before .before .before .before .before .before .before .before .before .before .before .before .before .before .before .before .before .before .before .before .before .before .before .before .before .before .before .before .before .before .before .before .before .before .before .if1 .left) (c .before .before .before .before .before .before .before .before .before .before .before .before .before .before .before .before .before .before .before .before .before .before .before .before .before .before .before .before .before .before .before .before .before .before .before .is-good .ensures) (c .before .before .before .before .before .before .before .before .before .before .before .before .before .before .before .before .before .before .before .before .before .before .before .before .before .before .before .before .before .before .before .before .before .before .if2 .left) (c .before .before .before .before .before .before .before .before .before .before .before .before .before .before .before .before .before .before .before .before .before .before .before .before .before .before .state-of .ensures) (c .before .before .before .before .before .before .before .before .before .before .before .before .before .before .before .before .before .before .before .before .replay .ensures) (c .before .put-state .ensures) (c .told .ensures)
+returns-3 c =
+    let midway = c .before .before .before .before .before .before .before .before .before .before in
+    let at-replay = midway .before .before .before .before .before .before .before .before .before .before in
+    let at-state-of = at-replay .before .before .before .before .before .before in
+    let at-if2 = at-state-of .before .before .before .before .before .before .before .before in
+    replay-left _ _ _ _ _ _ _ _ _ _ _ _ (at-if2 .before .before .before .before .too-long .ensures)
+    (at-if2 .before .before .before .if1 .left) (at-if2 .before .is-good .ensures) (at-if2 .if2 .left) (at-state-of .state-of .ensures)
+    (at-replay .replay .ensures) (c .before .put-state .ensures) (c .told .ensures)
 
 pub mmc5-replay-spec : {M : Type 1} → statement M
 mmc5-replay-spec =
