@@ -35,9 +35,10 @@ returns-2 c =
     let a = at-known .before .before .before .before .args in
     let w = wordsAt (a .bytes .now) (a .halves .now) (a .wide .now) (a .«prg-banks» .now) (a .«chr-banks» .now) (a .«prg-pages» .now)
     (a .«chr-pages» .now) in
+    let ranged = in-range-ranged w _ (at-words-in-range .words-in-range .ensures) (at-if1 .if1 .left) in
     irq-left w _ Nothing _ _ _ _
     (in-range-sound w _ (at-known .known .ensures) (at-words-in-range .words-in-range .ensures) (at-if1 .if1 .left))
-    (clock-done _ _ _ (in-range-ranged w _ (at-words-in-range .words-in-range .ensures) (at-if1 .if1 .left)) (at-detector-of .detector-of .ensures) (at-clock .clock .ensures))
+    (clock-done _ _ _ ranged (at-detector-of .detector-of .ensures) (at-clock .clock .ensures))
     (at-put-detector .put-detector .ensures .0) (at-put-detector .put-detector .ensures .1) (c .with-interrupt .ensures)
 
 pub mmc5-clock-spec : {M : Type 1} → statement M
