@@ -18,7 +18,8 @@ use Rattle.trace.specs.declared.Call.{Call}
 use Rattle.lines.specs.Told.{Up}
 use Rattle.lines.specs.Promise.{historyOf}
 use Rattle.lines.specs.Promise.Played.{at-load, taken}
-use Rattle.transcript.proofs.Small.{SmallMem, SmallState}
+use Rattle.transcript.specs.Bytes.{SmallMem}
+use Rattle.transcript.proofs.Small.{SmallState}
 use Rattle.transcript.proofs.SmallKept.{called-small}
 use Rattle.transcript.proofs.SmallLoad.{load-small}
 use Rattle.told.specs.Told.{toldPlain, toldWith, interruptTold}

@@ -9,7 +9,7 @@ use Rattle.trace.specs.declared.Call.{Call}
 use Rattle.trace.specs.Promise.{InRange}
 use Rattle.lines.specs.Told.{Up}
 use Rattle.lines.specs.Promise.{historyOf}
-use Rattle.transcript.proofs.Small.{SmallMem}
+use Rattle.transcript.specs.Bytes.{SmallMem}
 use Rattle.told.specs.Told.{toldPlain}
 use Rattle.histories.specs.Boards.{Made}
 use Rattle.histories.specs.Boards.Made.{call, peek, ppu-peek, sprite-peek, mirroring-asked, interrupt-asked, cpu-page, ppu-page}

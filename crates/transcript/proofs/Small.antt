@@ -29,9 +29,7 @@ use Rattle.state.specs.declared.State.{State}
 use Rattle.cpu.specs.Groups.{within}
 use Rattle.cpu.specs.Reads.{shownAs, pageAnswer, registerRead, cpuAnswer}
 use Rattle.ppu.specs.Served.{direct, splitByte, splitServes, countedServed, patternServed}
-
-abbrev pub Bytes : List ℕ → Type 0
-Bytes l = (i : ℕ) → getD l i 0 < 256
+use Rattle.transcript.specs.Bytes.{Bytes, SmallMem}
 
 pub record SmallRegs (g : Regs) : Type 0 where
   pub prg-mode : g .«prg_mode» < 256
@@ -47,13 +45,6 @@ pub record SmallSplit (v : VSplit) : Type 0 where
   pub mode : v .mode < 256
   pub scroll : v .scroll < 256
   pub bank : v .bank < 256
-
-pub record SmallMem (m : Mem) : Type 0 where
-  pub prg : Bytes (m .prg)
-  pub chr : Bytes (m .chr)
-  pub ram : Bytes (m .ram)
-  pub ciram : Bytes (m .ciram)
-  pub exram : Bytes (m .exram)
 
 -- The groups of a state that calls read numbers from: `target` is $5203.
 pub record SmallGroups (g : Regs) (v : VSplit) (target : ℕ) (prg chr : List ℕ) : Type 0 where

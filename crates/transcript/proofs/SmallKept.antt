@@ -46,7 +46,8 @@ use Rattle.trace.specs.declared.Call.{Call}
 use Rattle.trace.specs.declared.Call.the-variants.{Clock, CpuRead, CpuWrite, PpuRegister, PpuFetch, Reset, PpuWrite}
 use Rattle.trace.specs.Promise.{InRange}
 use Rattle.calls.specs.Called.{overLent, called}
-use Rattle.transcript.proofs.Small.{Bytes, SmallRegs, SmallSplit, SmallMem, SmallState, SmallAnswer, page-small, read-small, counted-small, pattern-small}
+use Rattle.transcript.specs.Bytes.{Bytes, SmallMem}
+use Rattle.transcript.proofs.Small.{SmallRegs, SmallSplit, SmallState, SmallAnswer, page-small, read-small, counted-small, pattern-small}
 
 -- Stores -----------------------------------------------------------------------------------------------------------------------------
 

@@ -16,7 +16,8 @@ use Rattle.board.specs.declared.Outcome.{Outcome}
 use Rattle.board.specs.Loads.{firstBanks, zeroState, loadedState, loadCall}
 use Rattle.trace.specs.Cartridge.{countedPages, cartridge}
 use Rattle.trace.proofs.CartridgeLaws.{length-pages, byte-of-pages}
-use Rattle.transcript.proofs.Small.{Bytes, SmallRegs, SmallSplit, SmallMem, SmallState}
+use Rattle.transcript.proofs.Small.{SmallRegs, SmallSplit, SmallState}
+use Rattle.transcript.specs.Bytes.{Bytes, SmallMem}
 
 zeros-small : (n i : ℕ) → getD (replicate n 0) i 0 < 256
 zeros-small zero i = omega arith

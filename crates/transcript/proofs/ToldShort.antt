@@ -26,7 +26,8 @@ use Rattle.text.proofs.DigitLaws.{few-digits}
 use Rattle.calls.specs.Called.{called}
 use Rattle.player.proofs.Ways.{by-found}
 use Rattle.transcript.specs.Told.{toldFrom}
-use Rattle.transcript.proofs.Small.{SmallMem, SmallState}
+use Rattle.transcript.specs.Bytes.{SmallMem}
+use Rattle.transcript.proofs.Small.{SmallState}
 use Rattle.transcript.proofs.SmallKept.{called-small}
 
 -- Lines ------------------------------------------------------------------------------------------------------------------------------
