@@ -16,6 +16,8 @@ use Rattle.lines.specs.Machine.{step, Watched, atLoad, tilesBy, watched}
 use Rattle.lines.specs.Promise.{historyOf, LedTo as Seen}
 use Rattle.lines.specs.Promise.Played.{at-load, taken}
 use Rattle.promises.proofs.Promised.{gate-stays-open}
+use Rattle.promises.proofs.Addresses.{address-stays}
+use Rattle.promises.proofs.Gates.{in-range-of}
 use Rattle.player.proofs.Steps.{call-open}
 use Rattle.histories.specs.Boards.{Board, Made, says, leaves, number}
 use Rattle.histories.specs.Boards.Made.{call, peek, ppu-peek, sprite-peek, mirroring-asked, interrupt-asked, cpu-page, ppu-page}
@@ -91,6 +93,7 @@ are-reached l (c ∷ cs) e =
 pub along : Along
 along = record {
   gate = λ l cs b r. open-along l r;
+  address = λ l cs b r. address-stays .found (b .state) (in-range-of (b .state) (b .mem) (open-along l r));
   refused = λ l cs b r c. exactly b c (open-along l r);
   told = λ l cs b r. told-along l r;
   all-of-them = λ l cs. (λ p. are-acceptable l (p .1), are-reached l cs);

@@ -1,8 +1,8 @@
 -- Which calls are accepted along a history, and which histories there are: told by the calls alone. Demand 1: "A refusal has one number from
 -- 01, is given exactly when 01 says". Along a history 6 and 7 are the only ones, so a board that refuses every call is shut out, and so is one
--- that serves its first call and then refuses.
+-- that serves its first call and then refuses. CR 9: the split tile's address along a history.
 -- Assumes nothing.
-use Prim.Native.Nat.{ℕ}
+use Prim.Native.Nat.{ℕ, _≤_}
 use mathlib.Core.Path.{_≡_}
 use mathlib.Core.Logic.{_↔_}
 use mathlib.Core.Bool.{Bool, true, _&&_}
@@ -52,6 +52,8 @@ acceptable (c ∷ cs) = acceptable cs && eqb (refusal (watched (historyOf event 
 pub record Along : Type 0 where
   -- an accepted call leads to no refusal 4 or 5
   pub gate : (l : Load) (cs : List Made) (b : Board) → Reached l cs b → gateMem (b .state) (b .mem) ≡ Open
+  -- the split tile's address stays at 959 or less
+  pub address : (l : Load) (cs : List Made) (b : Board) → Reached l cs b → b .state .vsplit .«tile_addr» ≤ 959
   -- the next call is refused exactly when 01 says, with that number (that it then changes nothing: `gives-back` of specs/Refusals.antt)
   pub refused : (l : Load) (cs : List Made) (b : Board) → Reached l cs b → (c : Made) → number (says b c) ≡ refusal (watch b) c
   -- what refusal 7 looks at is told by the calls alone

@@ -29,7 +29,7 @@ pub fn demand_3()
     ensures { λ _. ⌜ BoardDemand3 × Asked × Waits ⌝ }
 {}
 
-// Which calls are accepted along a history, and which histories there are.
+// Which calls are accepted along a history, and which histories there are; the split tile's address along one.
 pub fn who_is_accepted()
     ensures { λ _. ⌜ Along ⌝ }
 {}

@@ -4,4 +4,5 @@ pub mod Gates
 pub mod Refusals
 pub mod Fetching
 pub mod Promised
+pub mod Addresses
 pub mod Loadings

@@ -1,3 +1,4 @@
 pub mod Kept
+pub mod Address
 pub mod Refused
 pub mod Loading

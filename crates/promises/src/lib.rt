@@ -1,4 +1,5 @@
 // No code that runs: each function's contract holds what is promised, so that a proof that goes missing fails the check.
+ghost use Rattle.promises.specs.Address.{AddressStays};
 ghost use Rattle.promises.specs.Kept.{GateStaysOpen};
 ghost use Rattle.promises.specs.Loading.{LoadRefusals};
 ghost use Rattle.promises.specs.Refused.{WhoIsRefused};
@@ -6,6 +7,11 @@ ghost use Rattle.promises.specs.Refused.{WhoIsRefused};
 // An accepted call leads to no refusal 4 or 5.
 pub fn gate_stays_open()
     ensures { λ _. ⌜ GateStaysOpen ⌝ }
+{}
+
+// Behind an open gate every call leaves the split tile's address at 959 or less.
+pub fn address_stays()
+    ensures { λ _. ⌜ AddressStays ⌝ }
 {}
 
 // Which calls are refused, and with which number.

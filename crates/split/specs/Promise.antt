@@ -4,7 +4,7 @@ use mathlib.Core.Bool.{Bool, true, false}
 use mathlib.Core.Path.{_≡_}
 use Rattle.split.specs.declared.VSplit.{VSplit}
 use Rattle.split.specs.Control.{afterLoad, withControl, withScroll, withBank, splitRanges, splitRefused}
-use Rattle.split.specs.Region.{scrollOf, afterName}
+use Rattle.split.specs.Region.{scrollOf, splitAddress, afterName}
 use Rattle.split.specs.Places.{attributeAddress, attributeShift, patternOffset}
 
 pub record Split : Type 0 where
@@ -24,3 +24,13 @@ pub record Split : Type 0 where
   pub shift-even : (t : ℕ) → attributeShift t % 2 ≡ 0
   -- the offset lies in a mebibyte
   pub pattern-inside : (bank addr scroll : ℕ) → bank < 256 → patternOffset bank addr scroll < 2 ^ 20
+
+-- "at 959 or less .., column 32 included": with column 32 the address is that of an odd row's first tile, since the column is or-ed in.
+pub record Column32 : Type 0 where
+  pub within : (scroll column : ℕ) → scroll < 240 → column ≤ 32 → splitAddress scroll column ≤ 959
+  pub odd-row : (scroll : ℕ) → splitAddress scroll 32 % 64 ≡ 32
+  pub at-most-928 : (scroll : ℕ) → scroll < 240 → splitAddress scroll 32 ≤ 928
+
+-- A name fetch that leaves the region on has a column of at most 32.
+abbrev pub InRegion : Type 0
+InRegion = (v : VSplit) (column : ℕ) (first : Bool) (scroll : ℕ) → splitRanges v ≡ true → afterName v column first scroll .«in_region» ≡ true → column ≤ 32

@@ -2,7 +2,7 @@
 // region get. 01, module 8; in the Rust, `VSplit` and the functions `split_*`. The tile count is not known here: its column, whether it is
 // 40 or more, and whether it is under 42, come in as parameters. What the names mean stands in specs/, a file for each module below.
 ghost use Rattle.split.specs.Examples.{Examples};
-ghost use Rattle.split.specs.Promise.{Split};
+ghost use Rattle.split.specs.Promise.{Split, Column32, InRegion};
 
 pub mod control;
 pub mod places;
@@ -31,7 +31,7 @@ pub struct AttributePlace {
 
 // No code: its contract holds what is promised of the split, so that a proof that goes missing fails the check.
 pub fn promises()
-    ensures { λ _. ⌜ Split ⌝ }
+    ensures { λ _. ⌜ Split × Column32 × InRegion ⌝ }
 {}
 
 // No code: its contract holds the worked cases.
