@@ -99,19 +99,11 @@ impl Board {
         Ok(Answer::None)
     }
 
-    /// A fetch at $2000-$3EFF changes no memory and no page, so refusal 8 is told from a copy of
-    /// the registers that takes the fetch first.
     pub fn ppu_fetch(&mut self, addr: u16) -> Result<Answer, Refusal> {
-        let served = if (0x2000..=0x3EFF).contains(&addr) {
+        if (0x2000..=0x3EFF).contains(&addr) {
             refusal::counter(&self.exrom, addr)?;
-            let mut after = self.exrom.clone();
-            let served = after.chr_read(&mut self.memory, addr);
-            refusal::split(&after)?;
-            self.exrom = after;
-            served
-        } else {
-            self.exrom.chr_read(&mut self.memory, addr)
-        };
+        }
+        let served = self.exrom.chr_read(&mut self.memory, addr);
         Ok(served.map_or_else(|| self.ppu_page(addr), Answer::Served))
     }
 

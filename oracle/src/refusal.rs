@@ -14,7 +14,6 @@ pub enum Refusal {
     Ram = 3,
     Audio = 6,
     Counter = 7,
-    Split = 8,
     Kind = 9,
     Number = 10,
     Length = 11,
@@ -29,9 +28,6 @@ impl Refusal {
 /// Highest tile count and line counter that a state may hold.
 pub const TILE_LIMIT: u32 = 4_294_967_293;
 pub const LINE_LIMIT: u16 = 65_279;
-
-/// Highest tile address that a split fetch may use.
-pub const SPLIT_LIMIT: u16 = 959;
 
 fn refuse_if(refused: bool, refusal: Refusal) -> Result<(), Refusal> {
     if refused { Err(refusal) } else { Ok(()) }
@@ -79,17 +75,4 @@ pub fn counter(exrom: &Exrom, addr: u16) -> Result<(), Refusal> {
     let lines_over = third_equal && irq.in_frame && exrom.ppu_status.scanline >= LINE_LIMIT;
 
     refuse_if(tiles_over || lines_over, Refusal::Counter)
-}
-
-/// 8: a split fetch above the last tile, told from the registers as the fetch leaves them.
-pub fn split(after: &Exrom) -> Result<(), Refusal> {
-    let regs = &after.regs;
-    let served = regs.vsplit.enabled
-        && regs.exram_mode.nametable
-        && after.irq_state.in_frame
-        && regs.vsplit.in_region;
-    refuse_if(
-        served && regs.vsplit.tile_addr > SPLIT_LIMIT,
-        Refusal::Split,
-    )
 }

@@ -1,4 +1,4 @@
--- Every refusal has a number of its own, from 1 to 31. A new refusal costs its name in `all` and a line of `own`; what is above cites `numbered`.
+-- Every refusal has a number of its own, from 1 to 31 and not 8. A new refusal costs its name in `all` and a line of `own`; what is above cites `numbered`.
 use Prim.Native.Nat.{ℕ, _≤_}
 use mathlib.Core.Bool.{cond}
 use mathlib.Core.List.{List, [], _∷_}
@@ -6,7 +6,7 @@ use mathlib.Core.Path.{_≡_, refl, sym, _∙_, ap}
 use native.Mathlib.Omega.{arith}
 use lib.Dec.{eqb}
 use Rattle.answers.specs.declared.Refusal.{Refusal}
-use Rattle.answers.specs.declared.Refusal.the-variants.{Prg, Chr, Ram, Buffers, State, Audio, Counter, Split, Kind, Number, Length}
+use Rattle.answers.specs.declared.Refusal.the-variants.{Prg, Chr, Ram, Buffers, State, Audio, Counter, Kind, Number, Length}
 use Rattle.answers.specs.Numbers.{numberOf}
 use Rattle.answers.specs.Promise.{Numbered}
 
@@ -16,7 +16,7 @@ named [] n = Prg
 named (r ∷ rs) n = cond (eqb (numberOf r) n) r (named rs n)
 
 abbrev all : List Refusal
-all = Prg ∷ Chr ∷ Ram ∷ Buffers ∷ State ∷ Audio ∷ Counter ∷ Split ∷ Kind ∷ Number ∷ Length ∷ []
+all = Prg ∷ Chr ∷ Ram ∷ Buffers ∷ State ∷ Audio ∷ Counter ∷ Kind ∷ Number ∷ Length ∷ []
 
 abbrev Own : Refusal → Type 0
 Own r = (1 ≤ numberOf r) × (numberOf r ≤ 31) × (named all (numberOf r) ≡ r)
@@ -29,7 +29,6 @@ own Buffers = (omega arith, omega arith, refl)
 own State = (omega arith, omega arith, refl)
 own Audio = (omega arith, omega arith, refl)
 own Counter = (omega arith, omega arith, refl)
-own Split = (omega arith, omega arith, refl)
 own Kind = (omega arith, omega arith, refl)
 own Number = (omega arith, omega arith, refl)
 own Length = (omega arith, omega arith, refl)
@@ -39,5 +38,6 @@ numbered =
     record {
       least = λ (r : Refusal). own r .0;
       most = λ (r : Refusal). own r .1;
+      no-eight = λ (r : Refusal) e. omega (arith, e, ap numberOf (sym (own r .2) ∙ ap (named all) e));
       own = λ (q r : Refusal) e. sym (own q .2) ∙ ap (named all) e ∙ own r .2;
     }

@@ -1,4 +1,4 @@
-// What a call answers, and the refusals: one for each row of 01's table "Refusal numbers", with its number.
+// What a call answers, and the refusals: one for each row of 01's table "Refusal numbers", with its number. 8 left the table, and is given to none.
 ghost use mathlib.Core.Path.{_≡_};
 ghost use Rattle.answers.specs.Letters.{letterOf, hasValue, valueOf};
 ghost use Rattle.answers.specs.Numbers.{numberOf};
@@ -12,7 +12,6 @@ pub enum Refusal {
     State,
     Audio,
     Counter,
-    Split,
     Kind,
     Number,
     Length,
@@ -40,7 +39,6 @@ pub fn number_of(refusal: Refusal) -> u8
         Refusal::State => 5,
         Refusal::Audio => 6,
         Refusal::Counter => 7,
-        Refusal::Split => 8,
         Refusal::Kind => 9,
         Refusal::Number => 10,
         Refusal::Length => 11,

@@ -27,7 +27,6 @@ use Rattle.board.specs.Whole.{resetRegs, toldPpu, resetCall, clockCall, ppuRegi
 use Rattle.board_ppu.specs.Fetch.{countedIrq, countedPpu, countedSplit, countedState, countedCall, setChanged, patternPages, patternCall, ppuFetch}
 use Rattle.board_ppu.specs.Peeks.{chrWordAt, chrAnswer, ppuWrite}
 use Rattle.promises.proofs.Gates.{in-range-of}
-use Rattle.promises.proofs.Fetching.{split-free}
 use Rattle.arms.specs.Sides.{chosenAt}
 use Rattle.arms.proofs.Idle.{word-kept}
 
@@ -74,7 +73,7 @@ module _ (s : State) (m : Mem) (h : gateMem s m ≡ Open) where
         → ppuFetch s m a
         ≡ outcome (countedServed (s .regs) (countedSplit s a) (countedIrq s a .«in_frame») (countedPpu s a) (m .exram) a (chrAnswer (s .«chr_pages») m a)) (countedState s a)
     unfolding ppuFetch countedCall
-    fetch-counted f t = rw (h, f, t, split-free s a (in-range-of s m h))
+    fetch-counted f t = rw (h, f, t)
 
     pub fetch-other : counterRefused (s .irq) (s .ppu .«tile_number») a ≡ false → countedAt a ≡ false
         → let p = chosenAt (s .ppu) (s .irq .«in_frame») a in

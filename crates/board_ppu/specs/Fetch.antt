@@ -6,17 +6,16 @@ use lib.Dec.{ltb}
 use Rattle.memory.specs.declared.PageWord.{PageWord}
 use Rattle.memory.specs.Bytes.{Mem}
 use Rattle.memory.specs.Words.{pick}
-use Rattle.answers.specs.declared.Refusal.the-variants.{Counter, Split}
+use Rattle.answers.specs.declared.Refusal.the-variants.{Counter}
 use Rattle.banks.specs.Chr.{chrMapped}
 use Rattle.cpu.specs.Chosen.{chosen}
 use Rattle.ppu.specs.Fetches.{ppuSeen, splitSeen}
-use Rattle.ppu.specs.Served.{splitServes, countedServed, patternServed}
+use Rattle.ppu.specs.Served.{countedServed, patternServed}
 use Rattle.scanline.specs.declared.Detector.{Detector}
 use Rattle.scanline.specs.Fetches.{countedAt}
 use Rattle.scanline.specs.Ranges.{counterRefused}
 use Rattle.scanline.specs.Steps.{seenAt}
 use Rattle.split.specs.declared.VSplit.{VSplit}
-use Rattle.split.specs.Control.{splitRefused}
 use Rattle.state.specs.declared.PpuStatus.{PpuStatus}
 use Rattle.state.specs.declared.State.{State}
 use Rattle.state.specs.Gate.{gateMem}
@@ -38,11 +37,10 @@ countedSplit s a = splitSeen (s .regs) (s .vsplit) (countedIrq s a) (countedPpu 
 abbrev pub countedState : State → ℕ → State
 countedState s a = withVsplit (withPpu (withIrq s (countedIrq s a)) (countedPpu s a)) (countedSplit s a)
 
--- Refusal 8: "a split fetch would use a tile address above 959"; else the answer, by the groups after the fetch.
+-- The answer, by the groups after the fetch.
 unfoldable pub countedCall : State → Mem → ℕ → Outcome
 countedCall s m a =
-    pick (splitServes (s .regs) (countedSplit s a) (countedIrq s a .«in_frame») && splitRefused (countedSplit s a)) (refused s Split)
-    (outcome (countedServed (s .regs) (countedSplit s a) (countedIrq s a .«in_frame») (countedPpu s a) (m .exram) a (chrAnswer (s .«chr_pages») m a)) (countedState s a))
+    outcome (countedServed (s .regs) (countedSplit s a) (countedIrq s a .«in_frame») (countedPpu s a) (m .exram) a (chrAnswer (s .«chr_pages») m a)) (countedState s a)
 
 -- Module 5: "A pattern fetch chooses first, mapping only on a change".
 abbrev pub setChanged : Bool → Bool → Bool
@@ -62,7 +60,7 @@ unfoldable pub patternCall : State → Mem → ℕ → Outcome
 patternCall s m a =
     outcome (patternServed (s .regs) (s .vsplit) (s .irq) (patternPpu s) (m .exram) (m .chr) a (chrAnswer (patternPages s (patternPpu s .«bg_set»)) m a)) (patternState s)
 
--- Refusal 7 comes before 8; "from $3F00 on only the page answers".
+-- Refusal 7 is a fetch's only one of its own; "from $3F00 on only the page answers".
 unfoldable pub ppuFetch : State → Mem → ℕ → Outcome
 ppuFetch s m a =
     behind (gateMem s m) (refused s)

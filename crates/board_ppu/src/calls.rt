@@ -31,12 +31,6 @@ fn fetch_counted(
     let irq = scanline::seen(s.irq, addr);
     let status = ppu::fetches::ppu_seen(regs, irq.match_count, s.ppu, addr);
     let vsplit = ppu::fetches::split_seen(regs, s.vsplit, irq, status.tile_number, addr);
-    let as_name = registers::nametable_use(regs);
-    let active = split::control::active(vsplit, as_name, irq.in_frame);
-    let beyond = split::control::address_refused(vsplit);
-    if (active & vsplit.in_region) & beyond {
-        return board::refuse(s, Refusal::Split);
-    }
     let table = s.chr_pages;
     let page = pages::page_at(table, prg, chr, ram, ciram, exram, addr);
     let answer = ppu::served::counted_served(regs, vsplit, irq.in_frame, status, exram, addr, page);

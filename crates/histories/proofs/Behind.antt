@@ -28,21 +28,19 @@ use Rattle.state.specs.Ranges.{inRange}
 use Rattle.state.specs.With.{withIrq, withRegs}
 use Rattle.cpu.specs.Reads.{cpuAnswer, irqRead, audioRead}
 use Rattle.cpu.specs.Writes.{registerWritten, cpuStored, audioWrite}
-use Rattle.ppu.specs.Served.{countedServed}
 use Rattle.board.specs.declared.Interrupt.{Interrupt}
 use Rattle.board.specs.declared.Interrupt.the-variants.{Up, Down}
 use Rattle.board.specs.declared.Outcome.{Outcome}
 use Rattle.board.specs.CpuSide.{cpuRead, cpuWrite}
 use Rattle.board.specs.Outcomes.{outcome, refused, After, afterOf}
 use Rattle.board.specs.Whole.{resetRegs, resetCall, clockCall, toldPpu, ppuRegisterCall, interruptCall}
-use Rattle.board_ppu.specs.Fetch.{countedIrq, countedPpu, countedSplit, countedState, countedCall, patternCall, ppuFetch}
+use Rattle.board_ppu.specs.Fetch.{countedCall, patternCall, ppuFetch}
 use Rattle.board_ppu.specs.Peeks.{chrWordAt, chrAnswer, ppuPeek, spritePeek, ppuWrite}
 use Rattle.trace.specs.declared.Call.{Call}
 use Rattle.trace.specs.declared.Call.the-variants.{Clock, CpuRead, CpuWrite, PpuRegister, PpuFetch, Reset, PpuWrite}
 use Rattle.calls.specs.Called.{called}
 use Rattle.promises.specs.Refused.{RefusedWith}
 use Rattle.promises.proofs.Gates.{in-range-of}
-use Rattle.promises.proofs.Fetching.{split-free}
 use Rattle.promises.proofs.Promised.{who-is-refused}
 use Rattle.histories.specs.Boards.{Board, Made, says, number, numberIn}
 use Rattle.histories.specs.Boards.Made.{call, peek, ppu-peek, sprite-peek, mirroring-asked, interrupt-asked, cpu-page, ppu-page}
@@ -52,9 +50,7 @@ use Rattle.histories.specs.Accepted.{watch, refusal}
 -- A call that is not refused.
 abbrev pub fetched : State → Mem → ℕ → Outcome
 fetched s m a =
-    pick (countedAt a)
-    (outcome (countedServed (s .regs) (countedSplit s a) (countedIrq s a .«in_frame») (countedPpu s a) (m .exram) a (chrAnswer (s .«chr_pages») m a)) (countedState s a))
-    (pick (ltb a 0x2000) (patternCall s m a) (outcome (chrAnswer (s .«chr_pages») m a) s))
+    pick (countedAt a) (countedCall s m a) (pick (ltb a 0x2000) (patternCall s m a) (outcome (chrAnswer (s .«chr_pages») m a) s))
 
 abbrev pub done : Call → State → Mem → After
 done Clock s m = afterOf (outcome Nothing (withIrq s (clocked (s .irq)))) m
@@ -71,9 +67,8 @@ unmet true n e = absurd (omega arith)
 unmet false n e = refl
 
 pub unfetched : (s : State) (m : Mem) (a : ℕ) → gateMem s m ≡ Open → counterRefused (s .irq) (s .ppu .«tile_number») a ≡ false → ppuFetch s m a ≡ fetched s m a
-unfolding ppuFetch countedCall
-unfetched s m a h free =
-    rw (h, free) (split (countedAt a) (λ t. rw (t, split-free s a (in-range-of s m h))) (λ t. rw t))
+unfolding ppuFetch
+unfetched s m a h free = rw (h, free)
 
 -- Behind an open gate.
 pub is-done : (b : Board) (c : Call) → gateMem (b .state) (b .mem) ≡ Open → refusal (watch b) (call c) ≡ 0 → called c (b .state) (b .mem) ≡ done c (b .state) (b .mem)

@@ -19,7 +19,7 @@ use Rattle.cpu.specs.Writes.{registerWritten}
 use Rattle.ppu.specs.Fetches.{ppuSeen}
 use Rattle.board.specs.Outcomes.{After}
 use Rattle.board.specs.Whole.{statusTold, detectorTold, toldPpu}
-use Rattle.board_ppu.specs.Fetch.{patternCall}
+use Rattle.board_ppu.specs.Fetch.{countedCall, patternCall}
 use Rattle.trace.specs.declared.Call.{Call}
 use Rattle.trace.specs.declared.Call.the-variants.{Clock, CpuRead, CpuWrite, PpuRegister, PpuFetch, Reset, PpuWrite}
 use Rattle.lines.specs.Events.{Event}
@@ -69,7 +69,7 @@ unfolding detectorTold step tilesBy
 register-steps s a v = rw (told-tiles (s .ppu) a v)
 
 steps : (c : Call) (s : State) (m : Mem) → seen (done c s m .out .state) ≡ moved (seen s) (event (call c))
-unfolding step tilesBy registerWritten ppuSeen seenAt patternCall chosen
+unfolding step tilesBy registerWritten ppuSeen seenAt countedCall patternCall chosen
 steps Clock s m = refl
 steps (CpuRead a) s m = ap (λ (d : Detector). record { detector = d; tiles = s .ppu .«tile_number» }) (read-steps (s .irq) (a .0))
 steps (CpuWrite a v) s m = rw (choice-tiles (s .ppu) (s .irq .«in_frame») (a .0), write-steps (s .irq) (a .0) v)

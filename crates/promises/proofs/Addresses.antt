@@ -3,10 +3,11 @@ use Prim.Native.Nat.{ℕ, _≤_}
 use mathlib.Core.Bool.{Bool, true, false, not}
 use mathlib.Core.Path.{_≡_, refl}
 use native.Mathlib.Omega.{arith}
+use borrow.Author.Tests.{le-ltb}
 use lib.Dec.{ltb}
 use lib.ListN.{length}
 use Rattle.memory.specs.Bytes.{Mem}
-use Rattle.memory.proofs.Tests.{pick-keeps}
+use Rattle.memory.proofs.Tests.{pick-keeps, and-false}
 use Rattle.registers.specs.declared.Mirroring.{Mirroring}
 use Rattle.scanline.specs.Fetches.{countedAt}
 use Rattle.scanline.specs.Ranges.{counterRefused}
@@ -21,9 +22,10 @@ use Rattle.board.specs.declared.Outcome.{Outcome}
 use Rattle.board.specs.CpuSide.{cpuWrite}
 use Rattle.board.specs.Loads.{loadCall, loadedState}
 use Rattle.board.specs.Whole.{resetCall, clockCall, ppuRegisterCall}
-use Rattle.board_ppu.specs.Fetch.{patternCall, ppuFetch}
+use Rattle.board_ppu.specs.Fetch.{countedSplit, countedCall, patternCall, ppuFetch}
 use Rattle.board_ppu.specs.Peeks.{ppuWrite}
-use Rattle.promises.specs.Address.{AddressStays}
+use Rattle.promises.specs.Address.{AddressStays, countedCallWith8, SameFetch}
+use Rattle.promises.proofs.Fetching.{split-keeps}
 use Rattle.promises.proofs.Gates.{in-range-of}
 use Rattle.promises.proofs.Promised.{gate-stays-open}
 
@@ -62,3 +64,8 @@ address-stays =
       clock = λ s h. rw h (found s h);
       register = λ s a v h. rw h (found s h);
     }
+
+-- The test that refusal 8 stood behind is false.
+pub same-fetch : SameFetch
+unfolding countedCall countedCallWith8
+same-fetch eight s m a h = rw (le-ltb 959 _ (address-in-range (countedSplit s a) (split-keeps s a (ranged s h .vsplit))), and-false _)

@@ -9,7 +9,7 @@ use lib.Dec.{leb, ltb}
 use Rattle.memory.specs.declared.PageWord.{PageWord}
 use Rattle.memory.specs.Bytes.{Mem}
 use Rattle.memory.specs.Tables.{chrTableOk}
-use Rattle.memory.proofs.Tests.{split, pick-keeps, and-false}
+use Rattle.memory.proofs.Tests.{split, pick-keeps}
 use Rattle.registers.specs.declared.Regs.{Regs}
 use Rattle.registers.specs.Registers.{attributeUse, nametableUse}
 use Rattle.scanline.specs.Fetches.{countedAt, attributeAt, nameAt}
@@ -18,8 +18,7 @@ use Rattle.scanline.specs.Steps.{seenAt}
 use Rattle.scanline.specs.Tiles.{spriteFetch, isPrefetched, raisedBy}
 use Rattle.scanline.proofs.RangeLaws.{ranges-kept}
 use Rattle.split.specs.declared.VSplit.{VSplit}
-use Rattle.split.specs.Control.{splitActive, splitRanges, splitRefused}
-use Rattle.split.proofs.ControlLaws.{never-refused}
+use Rattle.split.specs.Control.{splitActive, splitRanges}
 use Rattle.split.proofs.RegionLaws.{scroll-small, name-keeps-ranges}
 use Rattle.state.specs.declared.gate.Gate.the-variants.{Open}
 use Rattle.state.specs.declared.State.{State}
@@ -28,7 +27,6 @@ use Rattle.state.specs.Ranges.{inRange}
 use Rattle.state.proofs.RangeLaws.{ranged, in-range}
 use Rattle.cpu.specs.Chosen.{chosen}
 use Rattle.ppu.specs.Fetches.{cacheAfter, ppuSeen, splitSeen}
-use Rattle.ppu.specs.Served.{splitServes}
 use Rattle.board_ppu.specs.Fetch.{countedIrq, countedPpu, countedSplit, countedState, countedCall, setChanged, patternPages, patternPpu, patternState, patternCall, ppuFetch}
 use Rattle.board_ppu.specs.Peeks.{ppuWrite}
 use Rattle.promises.proofs.Calls.{mappable}
@@ -42,7 +40,7 @@ cache-keeps g cache raised a h =
     pick-keeps (λ (n : ℕ). leb n 1023 ≡ true) (attributeUse g && (not (attributeAt a) && not (spriteFetch raised))) (le-leb (a % 1024) 1023 (omega arith)) h
 
 -- The split's address stays at 959 or less.
-split-keeps : (s : State) (a : ℕ) → splitRanges (s .vsplit) ≡ true → splitRanges (countedSplit s a) ≡ true
+pub split-keeps : (s : State) (a : ℕ) → splitRanges (s .vsplit) ≡ true → splitRanges (countedSplit s a) ≡ true
 unfolding splitSeen
 split-keeps s a h =
     pick-keeps (λ (v : VSplit). splitRanges v ≡ true) (nameAt a && splitActive (s .vsplit) (nametableUse (s .regs)) (countedIrq s a .«in_frame»))
@@ -63,10 +61,6 @@ module _ (s : State) (a : ℕ) (h : inRange s ≡ true) where
         prg-pages = r .prg-pages;
         chr-pages = r .chr-pages;
       })
-
-  -- Refusal 8 is never given.
-  pub split-free : splitServes (s .regs) (countedSplit s a) (countedIrq s a .«in_frame») && splitRefused (countedSplit s a) ≡ false
-  split-free = rw (never-refused (countedSplit s a) (split-keeps s a (ranged s h .vsplit))) (and-false (splitServes (s .regs) (countedSplit s a) (countedIrq s a .«in_frame»)))
 
   pub pattern-keeps-range : inRange (patternState s) ≡ true
   unfolding chosen patternPages
@@ -95,7 +89,7 @@ module _ (s : State) (m : Mem) (h : gateMem s m ≡ Open) where
       (λ t. rw (h, t) h)
       (λ free. rw (h, free)
       (split (countedAt a)
-      (λ counts. rw (counts, split-free s a r) (stays s _ m m h refl (name-keeps-range s a r counts free) (same m)))
+      (λ counts. rw counts (stays s _ m m h refl (name-keeps-range s a r counts free) (same m)))
       (λ no. rw no
       (split (ltb a 0x2000)
       (λ low. rw low (stays s _ m m h refl (pattern-keeps-range s a r) (same m)))

@@ -34,7 +34,7 @@ use Rattle.board_ppu.specs.Fetch.{countedIrq, countedPpu, countedSplit, counted
 use Rattle.board_ppu.specs.Peeks.{chrWordAt, chrAnswer, ppuPeek, spritePeek, ppuWrite}
 use Rattle.promises.specs.Kept.{GateStaysOpen}
 use Rattle.promises.specs.Refused.{RefusedWith, WhoIsRefused}
-use Rattle.promises.proofs.Fetching.{split-free, fetch-open, ppu-write-open}
+use Rattle.promises.proofs.Fetching.{fetch-open, ppu-write-open}
 use Rattle.promises.proofs.Gates.{in-range-of, read-open, write-open, reset-open, clock-open, register-open, load-open}
 use Rattle.promises.proofs.Refusals.{Given, shown-is-given, answer-is-given, same-behind}
 
@@ -74,7 +74,7 @@ unfolding ppuFetch countedCall patternCall
 fetch-is-given s m a h free =
     rw (h, free)
     (split (countedAt a)
-    (λ counts. rw (counts, split-free s a (in-range-of s m h)) (name-is-given (s .regs) (countedSplit s a) (countedIrq s a .«in_frame») (countedPpu s a) (m .exram) a _ (page-is-given (s .«chr_pages») m a)))
+    (λ counts. rw counts (name-is-given (s .regs) (countedSplit s a) (countedIrq s a .«in_frame») (countedPpu s a) (m .exram) a _ (page-is-given (s .«chr_pages») m a)))
     (λ no. rw no
     (split (ltb a 0x2000)
     (λ low. rw low (pattern-is-given (s .regs) (s .vsplit) (s .irq) _ (m .exram) (m .chr) a _ (page-is-given _ m a)))

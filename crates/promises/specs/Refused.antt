@@ -1,6 +1,6 @@
 -- Demand 1: "A refusal has one number from 01, is given exactly when 01 says, returns the state as handed in and writes no byte".
--- Behind an open gate the CPU's calls are refused for audio registers and for nothing else, fetches for refusal 7 alone (8 is never given), the
--- other calls never; so a board that refuses every call is shut out. At a shut gate every call gives the gate's refusal. The gate, `gateMem`, is
+-- Behind an open gate the CPU's calls are refused for audio registers and for nothing else, fetches for refusal 7 alone, the other calls never;
+-- so a board that refuses every call is shut out. At a shut gate every call gives the gate's refusal. The gate, `gateMem`, is
 -- refusals 4 and 5 (crate `state`, specs/Gate.antt). One equation over all calls and boards: `Refusals` of crate `histories`.
 use Prim.Native.Nat.{ℕ}
 use mathlib.Core.Bool.{true, false}

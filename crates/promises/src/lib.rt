@@ -1,5 +1,5 @@
 // No code that runs: each function's contract holds what is promised, so that a proof that goes missing fails the check.
-ghost use Rattle.promises.specs.Address.{AddressStays};
+ghost use Rattle.promises.specs.Address.{AddressStays, SameFetch};
 ghost use Rattle.promises.specs.Kept.{GateStaysOpen};
 ghost use Rattle.promises.specs.Loading.{LoadRefusals};
 ghost use Rattle.promises.specs.Refused.{WhoIsRefused};
@@ -9,9 +9,9 @@ pub fn gate_stays_open()
     ensures { λ _. ⌜ GateStaysOpen ⌝ }
 {}
 
-// Behind an open gate every call leaves the split tile's address at 959 or less.
+// Behind an open gate every call leaves the split tile's address at 959 or less, so a fetch without refusal 8 is the fetch that had it.
 pub fn address_stays()
-    ensures { λ _. ⌜ AddressStays ⌝ }
+    ensures { λ _. ⌜ AddressStays × SameFetch ⌝ }
 {}
 
 // Which calls are refused, and with which number.

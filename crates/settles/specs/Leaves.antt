@@ -66,7 +66,6 @@ use Rattle.split.proofs.control.set_scroll.Reads as split-set-scroll
 use Rattle.split.proofs.control.set_bank.Reads as split-set-bank
 use Rattle.split.proofs.control.active.Reads as split-active
 use Rattle.split.proofs.control.ranges_ok.Reads as split-ranges-ok
-use Rattle.split.proofs.control.address_refused.Reads as split-address-refused
 use Rattle.split.proofs.places.attribute_place.Reads as split-attribute-place
 use Rattle.split.proofs.places.attribute_bits.Reads as split-attribute-bits
 use Rattle.split.proofs.places.mirrored.Reads as split-mirrored
@@ -185,7 +184,6 @@ pub record Split : Type 0 where
   pub set-bank : Result split-set-bank.Learnt
   pub active : Result split-active.Learnt
   pub ranges-ok : Result split-ranges-ok.Learnt
-  pub address-refused : Result split-address-refused.Learnt
   pub attribute-place : Result split-attribute-place.Learnt
   pub attribute-bits : Result split-attribute-bits.Learnt
   pub mirrored : Result split-mirrored.Learnt

@@ -1,13 +1,13 @@
--- Laws of the split's registers: the ranges hold after load, each register keeps them, and in them refusal 8 is never given.
+-- Laws of the split's registers: the ranges hold after load, and each register keeps them.
 use Prim.Native.Nat.{ℕ, _%_, _<_, _≤_}
-use mathlib.Core.Bool.{Bool, true, false, _&&_}
+use mathlib.Core.Bool.{true}
 use mathlib.Core.Path.{_≡_, refl}
 use native.Mathlib.Omega.{arith}
-use borrow.Author.Tests.{leb-true, le-leb, le-ltb}
+use borrow.Author.Tests.{leb-true, le-leb}
 use lib.Dec.{leb}
 use Rattle.memory.proofs.Tests.{and-left, and-right, and-both}
 use Rattle.split.specs.declared.VSplit.{VSplit}
-use Rattle.split.specs.Control.{afterLoad, withControl, withScroll, withBank, splitRanges, splitRefused}
+use Rattle.split.specs.Control.{afterLoad, withControl, withScroll, withBank, splitRanges}
 
 -- The two ranges as facts, and back.
 pub tile-in-range : (v : VSplit) → splitRanges v ≡ true → v .tile ≤ 31
@@ -30,6 +30,3 @@ scroll-keeps-ranges v n h = h
 
 pub bank-keeps-ranges : (v : VSplit) (n : ℕ) → splitRanges v ≡ true → splitRanges (withBank v n) ≡ true
 bank-keeps-ranges v n h = h
-
-pub never-refused : (v : VSplit) → splitRanges v ≡ true → splitRefused v ≡ false
-never-refused v h = le-ltb _ _ (address-in-range v h)

@@ -80,7 +80,7 @@ pick-within : (b : Bool) (m x y : ℕ) → (b ≡ true → x ≤ m) → y ≤ m 
 pick-within true m x y f h = f refl
 pick-within false m x y f h = h
 
--- Refusal 8's lemma: a name fetch at any column, 32 included, keeps the split tile and the address in their ranges.
+-- A name fetch at any column, 32 included, keeps the split tile and the address in their ranges.
 pub name-keeps-ranges : (v : VSplit) (column : ℕ) (first : Bool) (scroll : ℕ)
     → scroll < 240 → splitRanges v ≡ true → splitRanges (afterName v column first scroll) ≡ true
 unfolding afterName

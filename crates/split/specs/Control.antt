@@ -1,7 +1,7 @@
 -- The split's registers, when it is active, and what its state may be.
 use Prim.Native.Nat.{ℕ, _%_}
 use mathlib.Core.Bool.{Bool, false, _&&_}
-use lib.Dec.{leb, ltb}
+use lib.Dec.{leb}
 use Rattle.split.specs.declared.VSplit.{VSplit}
 use Rattle.memory.specs.Bits.{bitSet}
 
@@ -31,7 +31,3 @@ splitActive v nametable frame = v .enabled && (nametable && frame)
 -- 01, "STATE ranges": "split tile 0-31; tile address 0-959".
 abbrev pub splitRanges : VSplit → Bool
 splitRanges v = leb (v .tile) 31 && leb (v .«tile_addr») 959
-
--- 01, refusal 8: "a tile address above 959".
-abbrev pub splitRefused : VSplit → Bool
-splitRefused v = ltb 959 (v .«tile_addr»)

@@ -1,22 +1,20 @@
 -- What is promised of the split, over every state of it: pinned by the contract of `promises`.
 use Prim.Native.Nat.{ℕ, _%_, _<_, _≤_, _^_}
-use mathlib.Core.Bool.{Bool, true, false}
+use mathlib.Core.Bool.{Bool, true}
 use mathlib.Core.Path.{_≡_}
 use Rattle.split.specs.declared.VSplit.{VSplit}
-use Rattle.split.specs.Control.{afterLoad, withControl, withScroll, withBank, splitRanges, splitRefused}
+use Rattle.split.specs.Control.{afterLoad, withControl, withScroll, withBank, splitRanges}
 use Rattle.split.specs.Region.{scrollOf, splitAddress, afterName}
 use Rattle.split.specs.Places.{attributeAddress, attributeShift, patternOffset}
 
 pub record Split : Type 0 where
   pub scroll-small : (line : ℕ) (prefetched : Bool) (y : ℕ) → scrollOf line prefetched y < 240
-  -- the ranges hold after load, and every change keeps them, so refusal 8 is never given: a name fetch at any column keeps the address at
-  -- 959 or less
+  -- the ranges hold after load, and every change keeps them: a name fetch at any column keeps the address at 959 or less
   pub load-in-ranges : splitRanges afterLoad ≡ true
   pub control-keeps-ranges : (v : VSplit) (n : ℕ) → splitRanges v ≡ true → splitRanges (withControl v n) ≡ true
   pub scroll-keeps-ranges : (v : VSplit) (n : ℕ) → splitRanges v ≡ true → splitRanges (withScroll v n) ≡ true
   pub bank-keeps-ranges : (v : VSplit) (n : ℕ) → splitRanges v ≡ true → splitRanges (withBank v n) ≡ true
   pub name-keeps-ranges : (v : VSplit) (column : ℕ) (first : Bool) (scroll : ℕ) → scroll < 240 → splitRanges v ≡ true → splitRanges (afterName v column first scroll) ≡ true
-  pub never-refused : (v : VSplit) → splitRanges v ≡ true → splitRefused v ≡ false
   -- the place lies in a buffer of 1,024 bytes
   pub attribute-inside : (t : ℕ) → attributeAddress t < 1024
   -- one of 0, 2, 4 and 6

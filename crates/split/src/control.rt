@@ -1,6 +1,6 @@
 // The split's registers $5200-$5202, when it is active, and the ranges of its state.
 ghost use mathlib.Core.Path.{_≡_};
-ghost use Rattle.split.specs.Control.{afterLoad, withControl, withScroll, withBank, splitActive, splitRanges, splitRefused};
+ghost use Rattle.split.specs.Control.{afterLoad, withControl, withScroll, withBank, splitActive, splitRanges};
 use crate::VSplit;
 
 pub fn new() -> VSplit
@@ -58,11 +58,4 @@ pub fn ranges_ok(v: VSplit) -> bool
     ensures { λ r. ⌜ r ≡ splitRanges v ⌝ }
 {
     (v.tile <= 31) & (v.tile_addr <= 959)
-}
-
-// Refusal 8. A state whose ranges hold never meets it.
-pub fn address_refused(v: VSplit) -> bool
-    ensures { λ r. ⌜ r ≡ splitRefused v ⌝ }
-{
-    v.tile_addr > 959
 }

@@ -14,7 +14,7 @@ use Rattle.memory.specs.Bytes.{Mem, storedAt, pageStored}
 use Rattle.memory.specs.Words.{pick}
 use Rattle.memory.proofs.Tests.{pick-keeps}
 use Rattle.answers.specs.declared.Refusal.{Refusal}
-use Rattle.answers.specs.declared.Refusal.the-variants.{Audio, Counter, Split, State as Broken}
+use Rattle.answers.specs.declared.Refusal.the-variants.{Audio, Counter, State as Broken}
 use Rattle.answers.proofs.NumberLaws.{numbered}
 use Rattle.registers.specs.declared.Regs.{Regs}
 use Rattle.registers.specs.Registers.{attributeUse, nametableUse, written}
@@ -23,7 +23,7 @@ use Rattle.scanline.specs.Fetches.{countedAt, nameAt}
 use Rattle.scanline.specs.Ranges.{counterRefused}
 use Rattle.scanline.specs.Steps.{dark, seenAt, clocked}
 use Rattle.split.specs.declared.VSplit.{VSplit}
-use Rattle.split.specs.Control.{splitActive, splitRefused}
+use Rattle.split.specs.Control.{splitActive}
 use Rattle.split.specs.Region.{afterName}
 use Rattle.state.specs.declared.gate.Gate.{Gate}
 use Rattle.state.specs.declared.gate.Gate.the-variants.{Open, Shut}
@@ -35,7 +35,6 @@ use Rattle.cpu.specs.Groups.{within, splitAfter, irqAfter, prgBanksAfter, chrBa
 use Rattle.cpu.specs.Reads.{irqRead, audioRead}
 use Rattle.cpu.specs.Writes.{registerWritten, latched, cpuStored, audioWrite}
 use Rattle.ppu.specs.Fetches.{splitSeen}
-use Rattle.ppu.specs.Served.{splitServes}
 use Rattle.board.specs.declared.Outcome.{Outcome}
 use Rattle.board.specs.CpuSide.{cpuRead, cpuWrite}
 use Rattle.board.specs.Outcomes.{refused, After, afterOf, behind}
@@ -219,11 +218,10 @@ line-small d a h = h
 
 counted-call-small : (s : State) (m : Mem) (a : ℕ) → SmallState s → SmallMem m → SmallOut (countedCall s m a)
 unfolding countedCall
-counted-call-small s m a h k =
-    pick-keeps SmallOut (splitServes (s .regs) (countedSplit s a) (countedIrq s a .«in_frame») && splitRefused (countedSplit s a)) (refused-small s Split h) (
-      counted-small (s .regs) (countedSplit s a) (countedIrq s a .«in_frame») (countedPpu s a) (m .exram) a (chrAnswer (s .«chr_pages») m a) (h .regs) (k .exram) (chr-small (s .«chr_pages») m a k),
-      record { regs = h .regs; split = seen-small (s .regs) (s .vsplit) (countedIrq s a) (countedPpu s a .«tile_number») a (h .split); line = line-small (s .irq) a (h .line); prg-banks = h .prg-banks; chr-banks = h .chr-banks },
-    )
+counted-call-small s m a h k = (
+  counted-small (s .regs) (countedSplit s a) (countedIrq s a .«in_frame») (countedPpu s a) (m .exram) a (chrAnswer (s .«chr_pages») m a) (h .regs) (k .exram) (chr-small (s .«chr_pages») m a k),
+  record { regs = h .regs; split = seen-small (s .regs) (s .vsplit) (countedIrq s a) (countedPpu s a .«tile_number») a (h .split); line = line-small (s .irq) a (h .line); prg-banks = h .prg-banks; chr-banks = h .chr-banks },
+)
 
 pattern-call-small : (s : State) (m : Mem) (a : ℕ) → SmallState s → SmallMem m → SmallOut (patternCall s m a)
 unfolding patternCall

@@ -111,12 +111,25 @@ impl Pair {
         }
     }
 
-    /// The call on both, with answer and interrupt compared. True if the call was taken.
+    /// The split tile's address, on both: the same, and at most 959. A fetch has no refusal of its own for one above it.
+    fn split_address(&self) -> Result<(), String> {
+        let theirs = self.rust.exrom.regs.vsplit.tile_addr;
+        let ours = self.state.halves[1];
+        if theirs != ours || ours > 959 {
+            return Err(format!("split tile address: the Rust {theirs}, the port {ours}"));
+        }
+        Ok(())
+    }
+
+    /// The call on both, with answer and interrupt compared, and after a fetch the split tile's address. True if the call was taken.
     pub fn call(&mut self, record: Record) -> Result<bool, String> {
         let theirs = in_words(self.rust.call(record));
         let ours = self.ours(record);
         if ours.answer != theirs {
             return Err(format!("{record:?}: the Rust {theirs:?}, the port {:?}", ours.answer));
+        }
+        if matches!(record, Record::PpuFetch(_)) {
+            self.split_address().map_err(|why| format!("{record:?}: {why}"))?;
         }
         let taken = !matches!(theirs, Told::Refused(_));
         if taken && ours.interrupt != self.rust.interrupt() {

@@ -3,7 +3,7 @@
 use oracle::{
     board::Board,
     cases, generate,
-    refusal::{LINE_LIMIT, SPLIT_LIMIT, TILE_LIMIT},
+    refusal::{LINE_LIMIT, TILE_LIMIT},
     replay::{self, End},
     show, spell,
     trace::{LONGEST, Reader},
@@ -74,7 +74,7 @@ fn check_state(board: &Board) {
         exrom.irq_state.pending && regs.irq_enabled
     );
     assert_eq!(regs.irq_pending, board.interrupt());
-    assert!(regs.vsplit.tile_addr <= SPLIT_LIMIT);
+    assert!(regs.vsplit.tile_addr <= 959);
     assert!(regs.vsplit.tile <= 31 && exrom.tile_cache <= 1_023 && regs.fill.attr <= 3);
     assert!(exrom.ppu_status.idle_count <= 2);
     assert!(exrom.ppu_status.tile_number <= TILE_LIMIT && exrom.ppu_status.scanline <= LINE_LIMIT);
@@ -104,7 +104,7 @@ fn facts_after_every_record() {
         }
     }
     assert!(ups > 1_000, "{ups} records leave the interrupt up");
-    // 7 and 8 never occur; the others that a trace can meet do.
+    // 7 never occurs; the others that a trace can meet do.
     for (number, &count) in refusals.iter().enumerate() {
         assert_eq!(
             count > 0,

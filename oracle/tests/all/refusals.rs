@@ -135,23 +135,6 @@ fn counter_7_tiles() {
 }
 
 #[test]
-fn split_8_leaves_everything() {
-    let mut board = board("-");
-    for (addr, val) in [(0x5104, 0), (0x5200, 0xC3)] {
-        board.cpu_write(addr, val).expect("taken");
-    }
-    for addr in [0x2000, 0x2000, 0x2000, 0x2001] {
-        board.ppu_fetch(addr).expect("taken");
-    }
-    board.exrom.regs.vsplit.tile_addr = 960;
-    let before = everything(&board);
-    assert_eq!(board.ppu_fetch(0x23C0), Err(Refusal::Split));
-    assert_eq!(everything(&board), before);
-    // A name fetch in the region sets the address before it is used.
-    assert_eq!(board.ppu_fetch(0x2002), Ok(Answer::Served(0)));
-}
-
-#[test]
 fn length_11_prints_one_line() {
     assert_eq!(replay::lines(&mut board("-"), &[0; 8_193]), "? 11\n");
     assert!(replay::lines(&mut board("-"), &[0; 8_192]).ends_with("end 8192\n"));

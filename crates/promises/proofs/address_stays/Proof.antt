@@ -1,10 +1,10 @@
--- The promise is `address-stays` of `Addresses.antt`.
-use Rattle.promises.proofs.Addresses.{address-stays}
+-- The promises are `address-stays` and `same-fetch` of `Addresses.antt`.
+use Rattle.promises.proofs.Addresses.{address-stays, same-fetch}
 use Rattle.promises.proofs.address_stays.Statement.{statement}
 use Rattle.promises.proofs.address_stays.Tie as tie
 
 returns : tie.Need-returns
-returns c = address-stays
+returns c = (address-stays, same-fetch)
 
 pub address-stays-spec : {M : Type 1} → statement M
 address-stays-spec = tie.close (tie.spec returns)

@@ -24,30 +24,11 @@ split-seen-requires c κs =
 returns : tie.Need-returns
 unfolding countedCall
 returns c =
-    let at-active = c .before .before .before .before in
+    let at-split-seen = c .before .before .before in
     rw (
-      ← at-active .before .before .before .before .seen .ensures,
-      ← at-active .before .before .before .ppu-seen .ensures,
-      ← at-active .before .before .split-seen .ensures,
-      ← at-active .before .nametable-use .ensures,
-      ← at-active .active .ensures,
-      ← c .before .before .before .address-refused .ensures,
-      c .before .if1 .taken,
-    ) (c .refuse .ensures)
-
-returns-2 : tie.Need-returns-2
-unfolding countedCall
-returns-2 c =
-    let at-address-refused = c .before .before .before .before .before in
-    let at-ppu-seen = at-address-refused .before .before .before .before in
-    rw (
-      ← at-ppu-seen .before .seen .ensures,
-      ← at-ppu-seen .ppu-seen .ensures,
-      ← at-address-refused .before .before .before .split-seen .ensures,
-      ← at-address-refused .before .before .nametable-use .ensures,
-      ← at-address-refused .before .active .ensures,
-      ← at-address-refused .address-refused .ensures,
-      c .before .before .before .if1 .left,
+      ← at-split-seen .before .before .seen .ensures,
+      ← at-split-seen .before .ppu-seen .ensures,
+      ← at-split-seen .split-seen .ensures,
       c .counted-served .ensures,
       c .before .page-at .ensures,
     )
@@ -56,5 +37,4 @@ pub fetch-counted-spec : {M : Type 1} → statement M
 fetch-counted-spec =
     tie.close
     (tie.spec
-    seen-requires ppu-seen-requires split-seen-requires (λ c κs. search needs) (λ c κs. search needs) (λ c κs. search needs)
-    (λ c κs. search needs) returns (λ c κs. search needs) (λ c κs. search needs) returns-2)
+    seen-requires ppu-seen-requires split-seen-requires (λ c κs. search needs) (λ c κs. search needs) returns)
