@@ -3,7 +3,7 @@
 //! 4 BUFFERS and 5 STATE are about lent buffers and a state handed in. The Rust has neither, so
 //! they have no test here.
 
-use crate::{cartridge::Cartridge, mapper::m005_exrom::Exrom, ppu};
+use crate::{cartridge::Cartridge, mapper::m005_exrom::Exrom};
 
 /// Why a call is refused, with 01's number.
 #[derive(Debug, Clone, Copy, PartialEq, Eq)]
@@ -25,8 +25,7 @@ impl Refusal {
     }
 }
 
-/// Highest tile count and line counter that a state may hold.
-pub const TILE_LIMIT: u32 = 4_294_967_293;
+/// Highest line counter that a state may hold.
 pub const LINE_LIMIT: u16 = 65_279;
 
 fn refuse_if(refused: bool, refusal: Refusal) -> Result<(), Refusal> {
@@ -61,18 +60,15 @@ pub fn audio_write(addr: u16) -> Result<(), Refusal> {
     refuse_if(sound, Refusal::Audio)
 }
 
-/// 7: a fetch that needs a counter above its limit.
+/// 7: a fetch that needs a line counter above its limit. No tile count refuses one: the port's turns
+/// over.
 ///
-/// "Even for a moment": a name fetch adds one to the tile count before a third equal fetch zeroes
-/// it. A line adds one to the line counter in frame; out of frame it starts from 0, whatever the
-/// counter holds.
+/// A line adds one to the line counter in frame; out of frame it starts from 0, whatever the counter
+/// holds.
 pub fn counter(exrom: &Exrom, addr: u16) -> Result<(), Refusal> {
-    let name_fetch = (0x2000..=0x2FFF).contains(&addr) && !ppu::is_attr(addr);
-    let tiles_over = name_fetch && exrom.ppu_status.tile_number >= TILE_LIMIT;
-
     let irq = &exrom.irq_state;
     let third_equal = addr <= 0x2FFF && irq.prev_addr == Some(addr) && irq.match_count == 1;
     let lines_over = third_equal && irq.in_frame && exrom.ppu_status.scanline >= LINE_LIMIT;
 
-    refuse_if(tiles_over || lines_over, Refusal::Counter)
+    refuse_if(lines_over, Refusal::Counter)
 }

@@ -34,6 +34,16 @@ pub enum End {
 pub fn play(
     board: &mut Board,
     trace: &[u8],
+    see: impl FnMut(&Board, usize, Record, Answer),
+) -> End {
+    play_after(board, trace, |_, _| {}, see)
+}
+
+/// The same, with something done to the board before every record.
+pub fn play_after(
+    board: &mut Board,
+    trace: &[u8],
+    mut before: impl FnMut(&mut Board, Record),
     mut see: impl FnMut(&Board, usize, Record, Answer),
 ) -> End {
     let mut reader = match Reader::new(trace) {
@@ -48,6 +58,7 @@ pub fn play(
             Ok(None) => break End::Count(count),
             Err(refusal) => break End::Unreadable(refusal, place),
         };
+        before(board, record);
         match board.call(record) {
             Ok(answer) => see(board, count, record, answer),
             Err(refusal) => break End::Call(record, refusal, place),

@@ -65,17 +65,17 @@ module _ (s : State) (m : Mem) (h : gateMem s m ≡ Open) where
     unfolding cpuRead
     read-made f = rw (h, f)
 
-    pub fetch-refused : counterRefused (s .irq) (s .ppu .«tile_number») a ≡ true → ppuFetch s m a ≡ refused s Counter
+    pub fetch-refused : counterRefused (s .irq) a ≡ true → ppuFetch s m a ≡ refused s Counter
     unfolding ppuFetch
     fetch-refused t = rw (h, t)
 
-    pub fetch-counted : counterRefused (s .irq) (s .ppu .«tile_number») a ≡ false → countedAt a ≡ true
+    pub fetch-counted : counterRefused (s .irq) a ≡ false → countedAt a ≡ true
         → ppuFetch s m a
         ≡ outcome (countedServed (s .regs) (countedSplit s a) (countedIrq s a .«in_frame») (countedPpu s a) (m .exram) a (chrAnswer (s .«chr_pages») m a)) (countedState s a)
     unfolding ppuFetch countedCall
     fetch-counted f t = rw (h, f, t)
 
-    pub fetch-other : counterRefused (s .irq) (s .ppu .«tile_number») a ≡ false → countedAt a ≡ false
+    pub fetch-other : counterRefused (s .irq) a ≡ false → countedAt a ≡ false
         → let p = chosenAt (s .ppu) (s .irq .«in_frame») a in
         let pages = patternPages s (p .«bg_set») in
         ppuFetch s m a

@@ -1,12 +1,11 @@
 // What a PPU fetch does to the groups that it touches, for the loop of replay and for the host.
 ghost use mathlib.Core.Path.{_≡_};
-ghost use mathlib.Core.Bool.{true, false};
+ghost use mathlib.Core.Bool.{true};
 ghost use lib.Dec.{ltb};
 ghost use Rattle.memory.specs.Bytes.{memOf};
 ghost use Rattle.memory.specs.Words.{pick, pageOf};
 ghost use Rattle.cpu.specs.Reads.{pageAnswer};
-ghost use Rattle.scanline.specs.Fetches.{countedAt};
-ghost use Rattle.scanline.specs.Ranges.{detectorOk, counterRefused};
+ghost use Rattle.scanline.specs.Ranges.{detectorOk};
 ghost use Rattle.scanline.specs.Steps.{seenAt};
 ghost use Rattle.scanline.specs.Tiles.{tilesOk};
 ghost use Rattle.ppu.specs.Fetches.{ppuSeen, splitSeen};
@@ -27,7 +26,7 @@ pub struct Counted {
 }
 
 pub fn count_fetch(regs: Regs, irq: Detector, ppu: PpuStatus, vsplit: VSplit, addr: u16) -> Counted
-    requires { ⌜ (detectorOk irq ≡ true) × ((tilesOk (ppu .«tile_number») ≡ true) × ((countedAt addr ≡ true) × (counterRefused irq (ppu .«tile_number») addr ≡ false))) ⌝ }
+    requires { ⌜ (detectorOk irq ≡ true) × (tilesOk (ppu .«tile_number») ≡ true) ⌝ }
     ensures { λ r. ⌜ (r .irq ≡ seenAt irq addr) × ((r .ppu ≡ ppuSeen regs (seenAt irq addr .«match_count») ppu addr)
         × (r .vsplit ≡ splitSeen regs vsplit (seenAt irq addr) (ppuSeen regs (seenAt irq addr .«match_count») ppu addr .«tile_number») addr)) ⌝ }
 {

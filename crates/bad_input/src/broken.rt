@@ -41,7 +41,7 @@ fn detector(n: u8, d: Detector) -> Detector {
 
 fn status(n: u8, p: PpuStatus) -> PpuStatus {
     let mut t = p;
-    t.tile_number = number(n, 15, 4294967294, p.tile_number);
+    t.tile_number = number(n, 15, 84, p.tile_number);
     t.tile_cache = half(n, 16, 1024, p.tile_cache);
     t
 }

@@ -1,5 +1,5 @@
-// Fetches at the limits of the line counter and the tile count. 01, refusal 7: "a fetch at $2000-$3EFF would need, even for a moment, a tile count
-// above 4,294,967,293 or a line counter above 65,279". A line shows both counters before the fetch, the address, and what the fetch got.
+// Fetches at the limit of the line counter, and where the tile count turns over. 01, refusal 7: "a fetch at $2000-$3EFF would need .. a line counter above
+// 65,279"; CR 7: "so 83 is followed by 42". A line shows both counters before the fetch, the address, and what the fetch got.
 ghost use Prim.Native.Nat.{_≤_};
 use crate::lengths;
 use crate::lent;
@@ -65,11 +65,13 @@ fn counting(s: State, in_frame: bool, line: u16, tile: u32) -> State {
 }
 
 // Three equal fetches make a line. 01, "Examples at the edges": "In frame, line counter 65,278 takes a line, 65,279 refuses." Out of frame a line
-// starts from 0. A name fetch to $2FFF counts; an attribute fetch does not, nor a fetch from $3000 on. "Even for a moment": the third equal fetch
-// would zero the tile count.
+// starts from 0. A name fetch to $2FFF counts; an attribute fetch does not, nor a fetch from $3000 on. The third equal fetch zeroes the tile count. CR 7:
+// "5 uses the new range", 0 to 83.
 pub fn each(s: State) {
     fetches(counting(s, true, 65278, 0), 0, 7);
     fetches(counting(s, false, 65279, 0), 7, 11);
-    fetches(counting(s, false, 0, 4294967292), 11, 15);
-    fetches(counting(s, false, 0, 4294967291), 15, 19);
+    fetches(counting(s, false, 0, 82), 11, 15);
+    fetches(counting(s, false, 0, 81), 15, 19);
+    fetches(counting(s, false, 0, 84), 0, 1);
+    fetches(counting(s, false, 0, 4294967295), 0, 1);
 }

@@ -128,7 +128,7 @@ fn main() {
         ExRAM of no byte\n\
         idle count 3\n\
         line counter 65,280\n\
-        tile count 4,294,967,294\n\
+        tile count 84\n\
         tile cache 1,024\n\
         split tile 32\n\
         tile address 960\n\

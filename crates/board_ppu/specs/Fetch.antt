@@ -64,7 +64,7 @@ patternCall s m a =
 unfoldable pub ppuFetch : State → Mem → ℕ → Outcome
 ppuFetch s m a =
     behind (gateMem s m) (refused s)
-    (pick (counterRefused (s .irq) (s .ppu .«tile_number») a) (refused s Counter)
+    (pick (counterRefused (s .irq) a) (refused s Counter)
     (pick (countedAt a) (countedCall s m a)
     (pick (ltb a 0x2000) (patternCall s m a)
     (outcome (chrAnswer (s .«chr_pages») m a) s))))

@@ -1,9 +1,7 @@
 // A PPU fetch.
 ghost use mathlib.Core.Path.{_≡_};
-ghost use mathlib.Core.Bool.{true, false};
+ghost use mathlib.Core.Bool.{true};
 ghost use Rattle.memory.specs.Bytes.{memOf};
-ghost use Rattle.scanline.specs.Fetches.{countedAt};
-ghost use Rattle.scanline.specs.Ranges.{counterRefused};
 ghost use Rattle.state.specs.Ranges.{inRange};
 ghost use Rattle.board_ppu.specs.Fetch.{countedCall, setChanged, patternPages, patternCall, ppuFetch};
 use crate::pages;
@@ -24,7 +22,7 @@ fn fetch_counted(
     exram: &[u8],
     addr: u16,
 ) -> Outcome
-    requires { ⌜ (inRange s ≡ true) × ((countedAt addr ≡ true) × (counterRefused (s .irq) (s .ppu .«tile_number») addr ≡ false)) ⌝ }
+    requires { ⌜ inRange s ≡ true ⌝ }
     ensures { λ r. ⌜ r ≡ countedCall s (memOf (now (prg .entry)) (now (chr .entry)) (now (ram .entry)) (now (ciram .entry)) (now (exram .entry))) addr ⌝ }
 {
     let regs = s.regs;
@@ -108,7 +106,7 @@ pub fn ppu_fetch(
         return board::refuse(s, refusal);
     }
     let a = addr.0;
-    if scanline::counter_refused(s.irq, s.ppu.tile_number, a) {
+    if scanline::counter_refused(s.irq, a) {
         return board::refuse(s, Refusal::Counter);
     }
     if scanline::tiles::counted(a) {

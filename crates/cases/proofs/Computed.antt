@@ -21,7 +21,7 @@ use Rattle.banks.specs.Placed.{placed}
 use Rattle.banks.specs.Prg.{prgValues, prgShown, windowsMapped, exramPage}
 use Rattle.banks.specs.Chr.{windowPages, chrNumber, chrMapped}
 use Rattle.banks.specs.Names.{selector, namePage, namesMapped}
-use Rattle.scanline.specs.Tiles.{nextTile, tileRefused, tilesOk, spriteFetch, isFirst, isPrefetched, columnOf}
+use Rattle.scanline.specs.Tiles.{nextTile, tilesOk, spriteFetch, isFirst, isPrefetched, columnOf}
 use Rattle.scanline.specs.Ranges.{lineRefused, counterRefused, detectorOk}
 use Rattle.scanline.specs.Clock.{tick}
 use Rattle.scanline.specs.Steps.{again, matchesAfter, isLine, meets, seenAt}
@@ -53,7 +53,7 @@ abbrev all-some : List ℕ → List (Option ℕ)
 all-some l = map some l
 
 come : (map comes edges ≡ all-some (159 ∷ 1 ∷ 254 ∷ 1 ∷ 64 ∷ 64 ∷ 64 ∷ 192 ∷ 64 ∷ 64 ∷ 0 ∷ 0 ∷ 9 ∷ 6 ∷ 6 ∷ 959 ∷ 928 ∷ [])) × (map comes shutOut ≡ all-some (1 ∷ 254 ∷ 7 ∷ 7 ∷ 63 ∷ 5 ∷ 192 ∷ 64 ∷ 192 ∷ []))
-unfolding nextTile tileRefused tilesOk spriteFetch isFirst isPrefetched columnOf lineRefused counterRefused detectorOk tick again matchesAfter isLine meets seenAt offsetOf byteAt storedAt pageStored all prgShowsAs chrShowsAs wordNumber pageOf pageStart windowPage written regsOk placed prgValues prgShown windowsMapped exramPage windowPages chrNumber chrMapped selector namePage namesMapped sameLengths gateOf lengthsOk inRange sideAt regionAt splitAddress afterName chosen ppuAfter splitAfter irqAfter prgBanksAfter chrBanksAfter pageAnswer registerRead irqRead cpuAnswer prgPagesAfter chrPagesAfter registerWritten latched cpuStored cacheAfter ppuSeen splitSeen countedServed loadedState loadCall cpuRead cpuWrite clockCall statusTold detectorTold ppuRegisterCall countedCall ppuFetch chrAnswer says leaves number comes boardAfter loadAccepted accepted onto seen inTurn
+unfolding nextTile tilesOk spriteFetch isFirst isPrefetched columnOf lineRefused counterRefused detectorOk tick again matchesAfter isLine meets seenAt offsetOf byteAt storedAt pageStored all prgShowsAs chrShowsAs wordNumber pageOf pageStart windowPage written regsOk placed prgValues prgShown windowsMapped exramPage windowPages chrNumber chrMapped selector namePage namesMapped sameLengths gateOf lengthsOk inRange sideAt regionAt splitAddress afterName chosen ppuAfter splitAfter irqAfter prgBanksAfter chrBanksAfter pageAnswer registerRead irqRead cpuAnswer prgPagesAfter chrPagesAfter registerWritten latched cpuStored cacheAfter ppuSeen splitSeen countedServed loadedState loadCall cpuRead cpuWrite clockCall statusTold detectorTold ppuRegisterCall countedCall ppuFetch chrAnswer says leaves number comes boardAfter loadAccepted accepted onto seen inTurn
 come = (refl, refl)
 
 -- These are the values that are asked for.

@@ -9,7 +9,7 @@ use Rattle.banks.specs.Placed.{placed}
 use Rattle.banks.specs.Prg.{prgValues, prgShown, windowsMapped, exramPage}
 use Rattle.banks.specs.Chr.{windowPages, chrNumber, chrMapped}
 use Rattle.banks.specs.Names.{selector, namePage, namesMapped}
-use Rattle.scanline.specs.Tiles.{nextTile, tileRefused, tilesOk, spriteFetch, isFirst, isPrefetched, columnOf}
+use Rattle.scanline.specs.Tiles.{nextTile, tilesOk, spriteFetch, isFirst, isPrefetched, columnOf}
 use Rattle.scanline.specs.Ranges.{lineRefused, counterRefused, detectorOk}
 use Rattle.scanline.specs.Clock.{tick}
 use Rattle.scanline.specs.Steps.{again, matchesAfter, isLine, meets, seenAt}
@@ -35,7 +35,7 @@ use Rattle.player.specs.Replay.{playedFrom, replayed}
 use Rattle.cases.specs.WorkedReplay.{WorkedReplay}
 
 pub worked-replay : WorkedReplay
-unfolding nextTile tileRefused tilesOk spriteFetch isFirst isPrefetched columnOf lineRefused counterRefused detectorOk tick again matchesAfter isLine meets seenAt offsetOf byteAt storedAt pageStored all prgShowsAs chrShowsAs wordNumber pageOf pageStart windowPage written regsOk placed prgValues prgShown windowsMapped exramPage windowPages chrNumber chrMapped selector namePage namesMapped sameLengths gateOf lengthsOk inRange chosen ppuAfter splitAfter irqAfter prgBanksAfter chrBanksAfter pageAnswer registerRead irqRead cpuAnswer prgPagesAfter chrPagesAfter registerWritten latched cpuStored cacheAfter ppuSeen splitSeen countedServed loadedState loadCall cpuRead cpuWrite clockCall statusTold detectorTold ppuRegisterCall countedCall ppuFetch chrAnswer countedPages cartridge grouped numeral limited numbered filled recordAt logged playedFrom replayed
+unfolding nextTile tilesOk spriteFetch isFirst isPrefetched columnOf lineRefused counterRefused detectorOk tick again matchesAfter isLine meets seenAt offsetOf byteAt storedAt pageStored all prgShowsAs chrShowsAs wordNumber pageOf pageStart windowPage written regsOk placed prgValues prgShown windowsMapped exramPage windowPages chrNumber chrMapped selector namePage namesMapped sameLengths gateOf lengthsOk inRange chosen ppuAfter splitAfter irqAfter prgBanksAfter chrBanksAfter pageAnswer registerRead irqRead cpuAnswer prgPagesAfter chrPagesAfter registerWritten latched cpuStored cacheAfter ppuSeen splitSeen countedServed loadedState loadCall cpuRead cpuWrite clockCall statusTold detectorTold ppuRegisterCall countedCall ppuFetch chrAnswer countedPages cartridge grouped numeral limited numbered filled recordAt logged playedFrom replayed
 worked-replay = record {
   loads = refl;
   ending = refl;

@@ -7,6 +7,7 @@ use lib.Dec.{eqb, leb}
 use lib.ListN.{length, getD}
 use Rattle.memory.specs.Words.{pick}
 use Rattle.scanline.specs.declared.Detector.{Detector}
+use Rattle.scanline.specs.Tiles.{fold}
 use Rattle.state.specs.declared.PpuStatus.{PpuStatus}
 use Rattle.state.specs.declared.State.{State}
 use Rattle.state.specs.With.{withIrq, withPpu}
@@ -42,6 +43,7 @@ withTile p tile =
 abbrev pub inFrame : ℕ → ℕ → State → State
 inFrame line tile s = withPpu (withIrq s (withLine (s .irq) line)) (withTile (s .ppu) tile)
 
--- A case starts so whose first byte is "3 if it has counters", where all six bytes are there; every other one starts from the state as it is.
+-- A case starts so, with the fold of its tile count, whose first byte is "3 if it has counters", where all six bytes are there; every other one starts from
+-- the state as it is.
 unfoldable pub startOf : ℕ → List ℕ → State → State
-startOf kind b s = pick (eqb kind 3 && leb 6 (length b)) (inFrame (lineOf b) (tileOf b) s) s
+startOf kind b s = pick (eqb kind 3 && leb 6 (length b)) (inFrame (lineOf b) (fold (tileOf b)) s) s

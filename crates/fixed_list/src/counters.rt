@@ -1,8 +1,9 @@
-// The counters of a case: the line counter in two bytes and the tile count in four, low ones first. No short trace comes near their limits.
+// The counters of a case: the line counter in two bytes and the full tile count in four, low ones first. No short trace comes near their limits.
 ghost use mathlib.Core.Path.{_≡_};
 ghost use Prim.Native.Nat.{_<_};
 ghost use lib.ListN.{length};
 ghost use Rattle.fixed_list.specs.Counters.{lineOf, tileOf, inFrame, startOf};
+ghost use Rattle.scanline.specs.Tiles.{fold};
 use crate::head::COUNTERS;
 use crate::head::two;
 use state::State;
@@ -19,6 +20,16 @@ fn tile_of(b: &[u8]) -> u32
     ensures { λ r. ⌜ r ≡ tileOf (now (b .entry)) ⌝ }
 {
     (two(b[2], b[3]) + two(b[4], b[5]) * 65536) as u32
+}
+
+// What a board keeps of a full tile count.
+fn kept(full: u32) -> u32
+    ensures { λ r. ⌜ r ≡ fold full ⌝ }
+{
+    if full < 42 {
+        return full;
+    }
+    42 + (full - 42) % 42
 }
 
 fn in_frame(s: State, line: u16, tile: u32) -> State
@@ -41,5 +52,5 @@ pub fn start(kind: u8, b: &[u8], s: State) -> State
     if b.len() < 6 {
         return s;
     }
-    in_frame(s, line_of(b), tile_of(b))
+    in_frame(s, line_of(b), kept(tile_of(b)))
 }

@@ -5,26 +5,28 @@ use mathlib.Core.Path.{_≡_, refl, sym, _∙_, ap}
 use borrow.Author.Tests.{eqb-true, eq-eqb}
 use lib.ListN.{length}
 use Rattle.memory.proofs.Tests.{pick-keeps, and-left, and-right, and-both}
+use Rattle.scanline.specs.declared.Detector.{Detector}
+use Rattle.scanline.specs.Steps.{detectorAtLoad}
 use Rattle.state.specs.declared.gate.Gate.the-variants.{Open}
 use Rattle.state.specs.Gate.{gateMem}
 use Rattle.state.specs.Lengths.{prgTaken, chrTaken, ramTaken}
 use Rattle.board.specs.declared.Outcome.{Outcome}
 use Rattle.board.specs.Loads.{loadCall, loadedState}
 use Rattle.trace.specs.declared.Call.the-variants.{Clock, CpuRead, CpuWrite, PpuRegister, PpuFetch, Reset, PpuWrite}
-use Rattle.lines.specs.Told.{History}
-use Rattle.lines.specs.Machine.{step, Watched, atLoad, tilesBy, watched}
-use Rattle.lines.specs.Promise.{historyOf, LedTo as Seen}
+use Rattle.lines.specs.Machine.{run}
+use Rattle.lines.specs.Promise.{historyOf}
 use Rattle.lines.specs.Promise.Played.{at-load, taken}
+use Rattle.lines.proofs.Transfer.{seen}
 use Rattle.promises.proofs.Promised.{gate-stays-open}
 use Rattle.promises.proofs.Addresses.{address-stays}
 use Rattle.promises.proofs.Gates.{in-range-of}
 use Rattle.player.proofs.Steps.{call-open}
 use Rattle.histories.specs.Boards.{Board, Made, says, leaves, number}
 use Rattle.histories.specs.Boards.Made.{call, peek, ppu-peek, sprite-peek, mirroring-asked, interrupt-asked, cpu-page, ppu-page}
-use Rattle.histories.specs.Histories.{Load, first, Leads, Reached, event}
-use Rattle.histories.specs.Accepted.{watch, refusal, acceptable, Along}
+use Rattle.histories.specs.Histories.{Load, first, Takes, Leads, Reached, view, event}
+use Rattle.histories.specs.Accepted.{refusal, acceptable, Along}
 use Rattle.histories.proofs.Behind.{exactly}
-use Rattle.histories.proofs.Following.{takes-over}
+use Rattle.histories.proofs.Following.{follows}
 
 -- A board behind an open gate.
 abbrev pub Opened : Board → Type 0
@@ -48,34 +50,23 @@ open-on h (taken {s = b} c r t) = rw (t .left) (stays-open b c (open-on h r))
 pub open-along : (l : Load) {cs : List Made} {b : Board} → Reached l cs b → Opened b
 open-along l r = open-on (gate-stays-open .load (l .mem) (l .as-ram) (l .mirroring) (l .accepted)) r
 
--- The detector and the tile count, told by the calls alone -----------------------------------------------------------------------------
+-- The detector, told by the calls alone ------------------------------------------------------------------------------------------------
 
-pub load-watched : (l : Load) → watch (first l) ≡ atLoad
+pub starts : (l : Load) → view (first l) ≡ detectorAtLoad
 unfolding loadCall loadedState
-load-watched l =
-    let P : Outcome → Type 0 = λ (o : Outcome). watch (record { state = o .state; mem = l .mem }) ≡ atLoad in
+starts l =
+    let P : Outcome → Type 0 = λ (o : Outcome). o .state .irq ≡ detectorAtLoad in
     pick-keeps P (not (prgTaken (length (l .mem .prg)))) refl
     (pick-keeps P (not (chrTaken (length (l .mem .chr)))) refl
     (pick-keeps P (not (ramTaken (length (l .mem .ram)) (length (l .mem .ciram)) (length (l .mem .exram)))) refl refl))
 
--- a history of the board is one of the detector with its tile count
-pub seen-along : (l : Load) {cs : List Made} {b : Board} → Reached l cs b → Seen (historyOf event cs) (watch b)
-unfolding historyOf
-seen-along l at-load = rw (load-watched l) at-load
-seen-along l (taken {s = b} {s' = b'} c r t) = taken (event c) (seen-along l r) (takes-over b b' c t)
-
-seen-is : {h : History} {w : Watched} → Seen h w → w ≡ watched h
-unfolding watched
-seen-is at-load = refl
-seen-is (taken e r t) = t .moved ∙ ap (λ (w : Watched). record { detector = step (w .detector) e; tiles = tilesBy w e }) (seen-is r)
-
-pub told-along : (l : Load) {cs : List Made} {b : Board} → Reached l cs b → watch b ≡ watched (historyOf event cs)
-told-along l r = seen-is (seen-along l r)
+pub told-along : (l : Load) {cs : List Made} {b : Board} → Reached l cs b → view b ≡ run (historyOf event cs)
+told-along l r = seen Board Made (first l) Takes view event (starts l) follows r
 
 -- Which histories there are -------------------------------------------------------------------------------------------------------------
 
-pub number-told : (l : Load) {cs : List Made} {b : Board} → Reached l cs b → (c : Made) → number (says b c) ≡ refusal (watched (historyOf event cs)) c
-number-told l {b = b} r c = exactly b c (open-along l r) ∙ ap (λ (w : Watched). refusal w c) (told-along l r)
+pub number-told : (l : Load) {cs : List Made} {b : Board} → Reached l cs b → (c : Made) → number (says b c) ≡ refusal (run (historyOf event cs)) c
+number-told l {b = b} r c = exactly b c (open-along l r) ∙ ap (λ (d : Detector). refusal d c) (told-along l r)
 
 are-acceptable : (l : Load) {cs : List Made} {b : Board} → Reached l cs b → acceptable cs ≡ true
 unfolding acceptable
@@ -87,7 +78,7 @@ unfolding acceptable
 are-reached l [] e = (first l, at-load)
 are-reached l (c ∷ cs) e =
     let p = are-reached l cs (and-left (acceptable cs) _ e) in
-    let n : refusal (watched (historyOf event cs)) c ≡ 0 = eqb-true _ 0 (and-right (acceptable cs) _ e) in
+    let n : refusal (run (historyOf event cs)) c ≡ 0 = eqb-true _ 0 (and-right (acceptable cs) _ e) in
     (leaves (p .0) c, taken c (p .1) (record { accepted = number-told l (p .1) c ∙ n; left = refl }))
 
 pub along : Along

@@ -45,7 +45,8 @@ use Rattle.promises.proofs.Promised.{who-is-refused}
 use Rattle.histories.specs.Boards.{Board, Made, says, number, numberIn}
 use Rattle.histories.specs.Boards.Made.{call, peek, ppu-peek, sprite-peek, mirroring-asked, interrupt-asked, cpu-page, ppu-page}
 use Rattle.histories.specs.Boards.Said.{interrupts}
-use Rattle.histories.specs.Accepted.{watch, refusal}
+use Rattle.histories.specs.Histories.{view}
+use Rattle.histories.specs.Accepted.{refusal}
 
 -- A call that is not refused.
 abbrev pub fetched : State → Mem → ℕ → Outcome
@@ -66,18 +67,18 @@ pub unmet : (t : Bool) (n : ℕ) → pick t (suc n) 0 ≡ 0 → t ≡ false
 unmet true n e = absurd (omega arith)
 unmet false n e = refl
 
-pub unfetched : (s : State) (m : Mem) (a : ℕ) → gateMem s m ≡ Open → counterRefused (s .irq) (s .ppu .«tile_number») a ≡ false → ppuFetch s m a ≡ fetched s m a
+pub unfetched : (s : State) (m : Mem) (a : ℕ) → gateMem s m ≡ Open → counterRefused (s .irq) a ≡ false → ppuFetch s m a ≡ fetched s m a
 unfolding ppuFetch
 unfetched s m a h free = rw (h, free)
 
 -- Behind an open gate.
-pub is-done : (b : Board) (c : Call) → gateMem (b .state) (b .mem) ≡ Open → refusal (watch b) (call c) ≡ 0 → called c (b .state) (b .mem) ≡ done c (b .state) (b .mem)
+pub is-done : (b : Board) (c : Call) → gateMem (b .state) (b .mem) ≡ Open → refusal (view b) (call c) ≡ 0 → called c (b .state) (b .mem) ≡ done c (b .state) (b .mem)
 unfolding refusal clockCall cpuRead cpuWrite ppuRegisterCall resetCall ppuWrite
 is-done b Clock h e = rw (h, in-range-of (b .state) (b .mem) h)
 is-done b (CpuRead a) h e = rw (h, unmet (audioRead (a .0)) 5 e)
 is-done b (CpuWrite a v) h e = rw (h, unmet (audioWrite (a .0)) 5 e)
 is-done b (PpuRegister a v) h e = rw (h, in-range-of (b .state) (b .mem) h)
-is-done b (PpuFetch a) h e = rw (unfetched (b .state) (b .mem) (a .0) h (unmet (counterRefused (b .state .irq) (b .state .ppu .«tile_number») (a .0)) 6 e))
+is-done b (PpuFetch a) h e = rw (unfetched (b .state) (b .mem) (a .0) h (unmet (counterRefused (b .state .irq) (a .0)) 6 e))
 is-done b Reset h e = rw (h, in-range-of (b .state) (b .mem) h)
 is-done b (PpuWrite a v) h e = rw h
 
@@ -108,7 +109,7 @@ read-exactly s m a h =
     (λ t. rw t (given (cpuRead s m a .answer) (who-is-refused .read-else s m a h t)))
 
 -- Behind an open gate a call gives 6 or 7, or none, as the definition says.
-pub exactly : (b : Board) (c : Made) → gateMem (b .state) (b .mem) ≡ Open → number (says b c) ≡ refusal (watch b) c
+pub exactly : (b : Board) (c : Made) → gateMem (b .state) (b .mem) ≡ Open → number (says b c) ≡ refusal (view b) c
 unfolding refusal says number
 exactly b (call Clock) h = rw h (nothing (clockCall (b .state) .answer) (who-is-refused .clock (b .state) (in-range-of (b .state) (b .mem) h)))
 exactly b (call (CpuRead a)) h = read-exactly (b .state) (b .mem) (a .0) h
@@ -118,7 +119,7 @@ exactly b (call (CpuWrite a v)) h =
     (λ t. rw t (nothing (cpuWrite (b .state) (b .mem) (a .0) v .out .answer) (who-is-refused .write-else (b .state) (b .mem) (a .0) v h t)))
 exactly b (call (PpuRegister a v)) h = rw h (nothing (ppuRegisterCall (b .state) (a .0) v .answer) (who-is-refused .register (b .state) (a .0) v (in-range-of (b .state) (b .mem) h)))
 exactly b (call (PpuFetch a)) h =
-    split (counterRefused (b .state .irq) (b .state .ppu .«tile_number») (a .0))
+    split (counterRefused (b .state .irq) (a .0))
     (λ t. rw t (with-number 7 (b .state) (ppuFetch (b .state) (b .mem) (a .0)) (who-is-refused .fetch-counter (b .state) (b .mem) (a .0) h t)))
     (λ t. rw t (given (ppuFetch (b .state) (b .mem) (a .0) .answer) (who-is-refused .fetch-else (b .state) (b .mem) (a .0) h t)))
 exactly b (call Reset) h = rw h (nothing (resetCall (b .state) .answer) (who-is-refused .reset (b .state) (in-range-of (b .state) (b .mem) h)))
@@ -137,10 +138,10 @@ gate-case Open f k = f refl
 gate-case (Shut r) f k = k r refl
 
 abbrev Passed : Board → Call → Type 0
-Passed b c = (called c (b .state) (b .mem) ≡ done c (b .state) (b .mem)) × (refusal (watch b) (call c) ≡ 0)
+Passed b c = (called c (b .state) (b .mem) ≡ done c (b .state) (b .mem)) × (refusal (view b) (call c) ≡ 0)
 
 through : (b : Board) (c : Call) → number (says b (call c)) ≡ 0 → gateMem (b .state) (b .mem) ≡ Open → Passed b c
-through b c n h = let e : refusal (watch b) (call c) ≡ 0 = sym (exactly b (call c) h) ∙ n in (is-done b c h e, e)
+through b c n h = let e : refusal (view b) (call c) ≡ 0 = sym (exactly b (call c) h) ∙ n in (is-done b c h e, e)
 
 -- At a shut gate every call is its refusal, and changes nothing.
 pub shut-refuses : (c : Call) (s : State) (m : Mem) (r : Refusal) → gateMem s m ≡ Shut r → called c s m ≡ afterOf (refused s r) m

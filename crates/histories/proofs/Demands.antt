@@ -18,7 +18,7 @@ use Rattle.board.specs.declared.Interrupt.the-variants.{Up, Down, Refused as No
 use Rattle.board.specs.CpuSide.{cpuRead}
 use Rattle.board.specs.Whole.{interruptCall}
 use Rattle.lines.specs.Told.{History, Up as ToldUp}
-use Rattle.lines.specs.Machine.{Watched, run}
+use Rattle.lines.specs.Machine.{run}
 use Rattle.lines.specs.Promise.{historyOf}
 use Rattle.lines.specs.Cases.{toldStatus}
 use Rattle.lines.proofs.Agree.{agrees}
@@ -29,11 +29,8 @@ use Rattle.promises.proofs.Promised.{who-is-refused}
 use Rattle.histories.specs.Boards.{Board, Made}
 use Rattle.histories.specs.Histories.{Load, first, Takes, Reached, view, event}
 use Rattle.histories.specs.Interrupts.{BoardDemand3, Asked}
-use Rattle.histories.proofs.Along.{open-along, load-watched}
+use Rattle.histories.proofs.Along.{open-along, starts}
 use Rattle.histories.proofs.Following.{follows}
-
-starts : (l : Load) → view (first l) ≡ detectorAtLoad
-starts l = ap (λ (w : Watched). w .detector) (load-watched l)
 
 pub board-demand-3 : BoardDemand3
 board-demand-3 l = any-machine Board Made (first l) Takes view event (starts l) follows

@@ -23,7 +23,8 @@ use Rattle.calls.specs.Called.{called}
 use Rattle.promises.proofs.Promised.{who-is-refused}
 use Rattle.histories.specs.Boards.{Board, Made, says, leaves, number, numberIn}
 use Rattle.histories.specs.Boards.Made.{call, peek, ppu-peek, sprite-peek, mirroring-asked, interrupt-asked, cpu-page, ppu-page}
-use Rattle.histories.specs.Accepted.{watch, refusal}
+use Rattle.histories.specs.Histories.{view}
+use Rattle.histories.specs.Accepted.{refusal}
 use Rattle.histories.specs.Refusals.{lentAsRecorded, overBuffers, alone, given, Refusals}
 use Rattle.histories.proofs.Behind.{gate-case, exactly, told, shut-refuses, says-shut}
 
@@ -75,7 +76,7 @@ picked : (t : Bool) (n : ℕ) → (pick t n 0 ≡ 0 → ⊥) → t ≡ true
 picked true n h = refl
 picked false n h = absurd (h refl)
 
-behind-open : (b : Board) (c : Made) → Opened b → (refusal (watch b) c ≡ 0 → ⊥) → leaves b c ≡ b
+behind-open : (b : Board) (c : Made) → Opened b → (refusal (view b) c ≡ 0 → ⊥) → leaves b c ≡ b
 unfolding refusal leaves
 behind-open b (call Clock) h e = absurd (e refl)
 behind-open b (call (CpuRead a)) h e =
@@ -87,7 +88,7 @@ behind-open b (call (CpuWrite a v)) h e =
 behind-open b (call (PpuRegister a v)) h e = absurd (e refl)
 behind-open b (call (PpuFetch a)) h e =
     ap (λ (s : State). record { state = s; mem = b .mem })
-    (who-is-refused .fetch-counter (b .state) (b .mem) (a .0) h (picked (counterRefused (b .state .irq) (b .state .ppu .«tile_number») (a .0)) 7 e) .given-back)
+    (who-is-refused .fetch-counter (b .state) (b .mem) (a .0) h (picked (counterRefused (b .state .irq) (a .0)) 7 e) .given-back)
 behind-open b (call Reset) h e = absurd (e refl)
 behind-open b (call (PpuWrite a v)) h e = absurd (e refl)
 behind-open b (peek a) h e = refl

@@ -33,8 +33,8 @@ use Rattle.player.proofs.Ways.{by-found}
 use Rattle.histories.specs.Boards.{Board, Made, says, leaves, boardAfter, number, numberIn}
 use Rattle.histories.specs.Boards.Made.{call}
 use Rattle.histories.specs.Boards.Said.{answers}
-use Rattle.histories.specs.Histories.{Load, Leads, Reached}
-use Rattle.histories.specs.Accepted.{watch, refusal}
+use Rattle.histories.specs.Histories.{Load, Leads, Reached, view}
+use Rattle.histories.specs.Accepted.{refusal}
 use Rattle.histories.specs.Replays.{recordsTo, endOf, playedCalls, Records, Ends, answerAt, logAlong, boardIn, Plays, replayOf}
 use Rattle.histories.specs.Replays.Records.{none, one-more}
 use Rattle.histories.specs.Replays.Ends.{counted, unreadable, refused}
@@ -80,13 +80,13 @@ only : (t : Bool) (n : ℕ) (why : Refusal) → numberOf why ≡ pick t n 0 → 
 only true n why e = e
 only false n why e = no-zero why e
 
-six-or-seven : (b : Board) (c : Call) (why : Refusal) → numberOf why ≡ refusal (watch b) (call c) → (numberOf why ≡ 6) ⊎ (numberOf why ≡ 7)
+six-or-seven : (b : Board) (c : Call) (why : Refusal) → numberOf why ≡ refusal (view b) (call c) → (numberOf why ≡ 6) ⊎ (numberOf why ≡ 7)
 unfolding refusal
 six-or-seven b Clock why e = no-zero why e
 six-or-seven b (CpuRead a) why e = inl (only (audioRead (a .0)) 6 why e)
 six-or-seven b (CpuWrite a v) why e = inl (only (audioWrite (a .0)) 6 why e)
 six-or-seven b (PpuRegister a v) why e = no-zero why e
-six-or-seven b (PpuFetch a) why e = inr (only (counterRefused (b .state .irq) (b .state .ppu .«tile_number») (a .0)) 7 why e)
+six-or-seven b (PpuFetch a) why e = inr (only (counterRefused (b .state .irq) (a .0)) 7 why e)
 six-or-seven b Reset why e = no-zero why e
 six-or-seven b (PpuWrite a v) why e = no-zero why e
 

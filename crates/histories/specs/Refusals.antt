@@ -10,7 +10,8 @@ use Rattle.state.specs.Gate.{sameLengths}
 use Rattle.state.specs.Ranges.{inRange}
 use Rattle.histories.specs.Boards.{Board, Made, says, leaves, number}
 use Rattle.histories.specs.Boards.Made.{call, peek, ppu-peek, sprite-peek, mirroring-asked, interrupt-asked, cpu-page, ppu-page}
-use Rattle.histories.specs.Accepted.{watch, refusal}
+use Rattle.histories.specs.Histories.{view}
+use Rattle.histories.specs.Accepted.{refusal}
 
 -- "a lent length differs from the one recorded at load"
 abbrev pub lentAsRecorded : Board → Bool
@@ -26,8 +27,8 @@ abbrev pub alone : Board → ℕ
 alone b = pick (not (inRange (b .state))) 5 0
 
 unfoldable pub given : Board → Made → ℕ
-given b (call c) = overBuffers b (refusal (watch b) (call c))
-given b (peek a) = overBuffers b (refusal (watch b) (peek a))
+given b (call c) = overBuffers b (refusal (view b) (call c))
+given b (peek a) = overBuffers b (refusal (view b) (peek a))
 given b (ppu-peek a) = overBuffers b 0
 given b (sprite-peek a) = overBuffers b 0
 given b mirroring-asked = alone b

@@ -47,9 +47,9 @@ use Rattle.told.specs.Told.{toldWith}
 use Rattle.host.specs.Hosted.{leftWords, onWords}
 use Rattle.host.proofs.FastLaws.{taken-left}
 
--- The test of refusal 7, on the groups as they were read.
-pub not-refused : (s : State) (a : ℕ) (b c : Bool) (d : Detector) (p : PpuStatus) → d ≡ s .irq → p ≡ s .ppu → b ≡ counterRefused d (p .«tile_number») a → b ≡ c → counterRefused (s .irq) (s .ppu .«tile_number») a ≡ c
-not-refused s a b c d p ed ep eb tb = rw (← ed, ← ep) (sym eb ∙ tb)
+-- The test of refusal 7, on the detector as it was read.
+pub not-refused : (s : State) (a : ℕ) (b c : Bool) (d : Detector) → d ≡ s .irq → b ≡ counterRefused d a → b ≡ c → counterRefused (s .irq) a ≡ c
+not-refused s a b c d ed eb tb = rw (← ed) (sym eb ∙ tb)
 
 -- What counting asks of the groups.
 pub detector-ranged : (s : State) (m : Mem) (d : Detector) → gateMem s m ≡ Open → d ≡ s .irq → detectorOk d ≡ true
@@ -58,7 +58,7 @@ detector-ranged s m d h ed = rw ed (ranged s (in-range-of s m h) .detector)
 pub tiles-ranged : (s : State) (m : Mem) (p : PpuStatus) → gateMem s m ≡ Open → p ≡ s .ppu → tilesOk (p .«tile_number») ≡ true
 tiles-ranged s m p h ep = rw ep (ranged s (in-range-of s m h) .tiles)
 
-module _ (s : State) (m : Mem) (a : ℕ) (r : Regs) (d : Detector) (p : PpuStatus) (v : VSplit) (h : gateMem s m ≡ Open) (f : counterRefused (s .irq) (s .ppu .«tile_number») a ≡ false)
+module _ (s : State) (m : Mem) (a : ℕ) (r : Regs) (d : Detector) (p : PpuStatus) (v : VSplit) (h : gateMem s m ≡ Open) (f : counterRefused (s .irq) a ≡ false)
     (er : r ≡ s .regs) (ed : d ≡ s .irq) (ep : p ≡ s .ppu) (ev : v ≡ s .vsplit) where
   pub counted-done : (d′ : Detector) (p′ : PpuStatus) (v′ : VSplit) (x : PageWord) (y : Answer) → countedAt a ≡ true
       → d′ ≡ seenAt d a → p′ ≡ ppuSeen r (seenAt d a .«match_count») p a → v′ ≡ splitSeen r v (seenAt d a) (ppuSeen r (seenAt d a .«match_count») p a .«tile_number») a
@@ -122,7 +122,7 @@ unfolding patternPages
 mapped-as s p bg ep = rw ep
 
 pub other-left : (w : Words) (m : Mem) (a : ℕ) (r : Regs) (d : Detector) (p : PpuStatus) (v : VSplit) (p′ : PpuStatus) (cp : List ℕ) (x : PageWord) (y : Answer) (b : List ℕ) (n : ℕ)
-    → Sound w → gateMem (stateOf w) m ≡ Open → counterRefused (stateOf w .irq) (stateOf w .ppu .«tile_number») a ≡ false → countedAt a ≡ false
+    → Sound w → gateMem (stateOf w) m ≡ Open → counterRefused (stateOf w .irq) a ≡ false → countedAt a ≡ false
     → r ≡ stateOf w .regs → d ≡ stateOf w .irq → p ≡ stateOf w .ppu → v ≡ stateOf w .vsplit
     → p′ ≡ chosenAt p (d .«in_frame») a
     → cp

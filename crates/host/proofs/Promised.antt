@@ -102,7 +102,7 @@ module _ (s : State) (m : Mem) (a : ℕ) where
   fetch-back : isRefused (ppuFetch s m a .answer) ≡ true → ppuFetch s m a .state ≡ s
   fetch-back y =
       gate-case (gateMem s m)
-      (λ h. split (counterRefused (s .irq) (s .ppu .«tile_number») a) (λ t. who-is-refused .fetch-counter s m a h t .given-back) (λ f. not-both (ppuFetch s m a .answer) y (who-is-refused .fetch-else s m a h f)))
+      (λ h. split (counterRefused (s .irq) a) (λ t. who-is-refused .fetch-counter s m a h t .given-back) (λ f. not-both (ppuFetch s m a .answer) y (who-is-refused .fetch-else s m a h f)))
       (λ r h. ap (λ (o : Outcome). o .state) (who-is-refused .fetch-shut s m a r h))
 
   write-back : (v : ℕ) → isRefused (cpuWrite s m a v .out .answer) ≡ true → (cpuWrite s m a v .out .state ≡ s) × (cpuWrite s m a v .mem ≡ m)

@@ -81,7 +81,7 @@ pub extern "C" fn mmc5_ppu_fetch(
     }
     let irq = words::read::detector_of(bytes, halves);
     let ppu = words::read::status_of(bytes, halves, wide);
-    if scanline::counter_refused(irq, ppu.tile_number, addr) {
+    if scanline::counter_refused(irq, addr) {
         return told::plain(Answer::Refused(Refusal::Counter));
     }
     let regs = words::read::regs_of(bytes, halves);

@@ -1,4 +1,4 @@
--- Accepted calls keep the ranges: by cases on the call, each by crate `scanline`'s law.
+-- Accepted calls keep the ranges: by cases on the call, each by crate `scanline`'s law; of the tile count by the law of its fold.
 -- Assumes nothing.
 use Prim.Native.Nat.{ℕ, _/_, _%_}
 use mathlib.Core.Path.{_≡_, refl, ap}
@@ -10,13 +10,14 @@ use Rattle.memory.proofs.Tests.{split}
 use Rattle.scanline.specs.Steps.{dark}
 use Rattle.scanline.specs.declared.Detector.{Detector}
 use Rattle.scanline.specs.Fetches.{countedAt}
-use Rattle.scanline.specs.Tiles.{tilesOk}
+use Rattle.scanline.specs.Tiles.{fold, tilesOk}
 use Rattle.scanline.specs.Ranges.{detectorOk}
+use Rattle.scanline.proofs.FoldLaws.{fold-in-range}
 use Rattle.scanline.proofs.RangeLaws.{ranges-kept}
 use Rattle.lines.specs.Events.{Event}
 use Rattle.lines.specs.Events.Event.{clock, fetch, cpuRead, cpuWrite, ppuRegister, other}
 use Rattle.lines.specs.Told.{History}
-use Rattle.lines.specs.Machine.{step, Watched, eventRefused, tilesBy}
+use Rattle.lines.specs.Machine.{step, Watched, eventRefused}
 use Rattle.lines.specs.Promise.{LedTo, StaysInRange}
 use Rattle.lines.specs.Promise.Played.{at-load, taken}
 
@@ -24,7 +25,7 @@ module _ (w : Watched) where
   detector : (e : Event) → eventRefused w e ≡ false → detectorOk (w .detector) ≡ true → detectorOk (step (w .detector) e) ≡ true
   unfolding step eventRefused
   detector clock p r = ranges-kept .clock (w .detector) r
-  detector (fetch a) p r = split (countedAt a) (λ t. rw t (ranges-kept .seen (w .detector) (w .tiles) a t p r)) (λ t. rw t r)
+  detector (fetch a) p r = split (countedAt a) (λ t. rw t (ranges-kept .seen (w .detector) a t p r)) (λ t. rw t r)
   detector (cpuRead a) p r =
       split (eqb a 0xFFFA || eqb a 0xFFFB)
       (λ t. rw t (ranges-kept .vector-read (w .detector) r))
@@ -36,19 +37,9 @@ module _ (w : Watched) where
   detector (ppuRegister a v) p r = split (eqb a 0x2001 && dark v) (λ t. rw t (ranges-kept .darkened (w .detector) r)) (λ t. rw t r)
   detector other p r = r
 
-  tiles : (e : Event) → eventRefused w e ≡ false → tilesOk (w .tiles) ≡ true → tilesOk (tilesBy w e) ≡ true
-  unfolding tilesBy eventRefused
-  tiles clock p r = r
-  tiles (fetch a) p r = split (countedAt a) (λ t. rw t (ranges-kept .tiles (w .detector) (w .tiles) a t p r)) (λ t. rw t r)
-  tiles (cpuRead a) p r = r
-  tiles (cpuWrite a v) p r = r
-  tiles (ppuRegister a v) p r = r
-  tiles other p r = r
-
-kept : {h : History} {w : Watched} → LedTo h w → (detectorOk (w .detector) ≡ true) × (tilesOk (w .tiles) ≡ true)
-unfolding tilesOk
-kept at-load = (ranges-kept .at-load, refl)
-kept (taken {s = w} e r t) = rw (t .moved) (detector w e (t .allowed) (kept r .0), tiles w e (t .allowed) (kept r .1))
+kept : {h : History} {w : Watched} → LedTo h w → detectorOk (w .detector) ≡ true
+kept at-load = ranges-kept .at-load
+kept (taken {s = w} e r t) = rw (t .moved) (detector w e (t .allowed) (kept r))
 
 pub stays-in-range : StaysInRange
-stays-in-range h w r = kept r
+stays-in-range h w r = (kept r, fold-in-range (w .tiles))

@@ -8,7 +8,6 @@ use native.Mathlib.Omega.{arith}
 use borrow.Author.Tests.{not-true}
 use Rattle.memory.specs.Tables.{all}
 use Rattle.memory.proofs.Tests.{and-left, and-right}
-use Rattle.scanline.specs.Tiles.{nextTile, tileRefused}
 use Rattle.scanline.specs.Ranges.{lineRefused, counterRefused}
 use Rattle.scanline.specs.Clock.{tick}
 use Rattle.scanline.specs.Steps.{again, matchesAfter, isLine, meets, seenAt}
@@ -21,7 +20,7 @@ use Rattle.lines.specs.Cases.{after, toldStatus, right, Cases, waitingFr
 use Rattle.lines.proofs.Flag.{flag-iff, up-iff}
 
 pub cases : Cases
-unfolding nextTile tileRefused lineRefused counterRefused after toldStatus right all step eventRefused tilesBy watched allTaken tick again matchesAfter isLine meets seenAt isClock fetches reads writes darkens address value counts vectors clears idle row breaks recent alike lineAt lines inFrame lastWrite hadBit7 isValue hits flagTold up
+unfolding lineRefused counterRefused after toldStatus right all step eventRefused tilesBy watched allTaken tick again matchesAfter isLine meets seenAt isClock fetches reads writes darkens address value counts vectors clears idle row breaks recent alike lineAt lines inFrame lastWrite hadBit7 isValue hits flagTold up
 cases = tt
 
 pub tests-are-sentences : TestsAreSentences
@@ -34,7 +33,7 @@ reached [] p = at-load
 reached (e ∷ h) p = taken e (reached h (and-left (allTaken h) (not (eventRefused (watched h) e)) p)) (record { allowed = not-true (eventRefused (watched h) e) (and-right (allTaken h) (not (eventRefused (watched h) e)) p); moved = refl })
 
 pub worked : Worked
-unfolding nextTile tileRefused lineRefused counterRefused step eventRefused tilesBy watched allTaken tick again matchesAfter isLine meets seenAt isClock fetches reads writes darkens address value counts vectors clears idle row breaks recent alike lineAt lines inFrame lastWrite hadBit7 isValue hits flagTold calm newLines
+unfolding lineRefused counterRefused step eventRefused tilesBy watched allTaken tick again matchesAfter isLine meets seenAt isClock fetches reads writes darkens address value counts vectors clears idle row breaks recent alike lineAt lines inFrame lastWrite hadBit7 isValue hits flagTold calm newLines
 worked = record {
   waiting = record { at-line = refl; clear = λ f. false≢true (flag-iff waitingFrom .1 f); enabled = refl; target = refl; ahead = omega arith; byte = omega arith };
   undisturbed = refl;

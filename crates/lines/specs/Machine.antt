@@ -1,6 +1,6 @@
 -- The detector over a history: what each call makes of it, by the definitions of crate `scanline`, and which calls are taken.
 -- Assumes nothing.
-use Prim.Native.Nat.{ℕ}
+use Prim.Native.Nat.{ℕ, _+_}
 use mathlib.Core.Path.{_≡_}
 use mathlib.Core.Bool.{Bool, true, false, not, _&&_, _||_}
 use mathlib.Core.List.{[], _∷_}
@@ -8,8 +8,8 @@ use lib.Dec.{eqb}
 use Rattle.memory.specs.Bits.{bitSet}
 use Rattle.memory.specs.Words.{pick}
 use Rattle.scanline.specs.declared.Detector.{Detector}
-use Rattle.scanline.specs.Fetches.{countedAt}
-use Rattle.scanline.specs.Tiles.{raisedBy, leftAfter}
+use Rattle.scanline.specs.Fetches.{countedAt, nameAt}
+use Rattle.scanline.specs.Tiles.{leftAfter}
 use Rattle.scanline.specs.Steps.{detectorAtLoad, matchesAfter, meets, seenAt, clocked, dark, broken, vectorRead, statusRead, targeted, enabledBy}
 use Rattle.scanline.specs.Ranges.{counterRefused}
 use Rattle.lines.specs.Events.{Event}
@@ -29,7 +29,7 @@ unfoldable pub run : History → Detector
 run [] = detectorAtLoad
 run (e ∷ h) = step (run h) e
 
--- The detector with its tile count: what refusal 7 looks at.
+-- The detector with the full tile count, which is 01's: a number without an end. No code has it; the board keeps its fold (CR 7, crate `folds`).
 pub record Watched : Type 0 where
   pub detector : Detector
   pub tiles : ℕ
@@ -39,15 +39,19 @@ atLoad = record { detector = detectorAtLoad; tiles = 0 }
 
 unfoldable pub eventRefused : Watched → Event → Bool
 eventRefused w clock = false
-eventRefused w (fetch a) = counterRefused (w .detector) (w .tiles) a
+eventRefused w (fetch a) = counterRefused (w .detector) a
 eventRefused w (cpuRead a) = false
 eventRefused w (cpuWrite a v) = false
 eventRefused w (ppuRegister a v) = false
 eventRefused w other = false
 
+-- "tile count + 1 for a name fetch to $2FFF"
+abbrev pub raisedFull : ℕ → ℕ → ℕ
+raisedFull n a = pick (nameAt a) (n + 1) n
+
 unfoldable pub tilesBy : Watched → Event → ℕ
 tilesBy w clock = w .tiles
-tilesBy w (fetch a) = pick (countedAt a) (leftAfter (matchesAfter (w .detector) a) (raisedBy (w .tiles) a)) (w .tiles)
+tilesBy w (fetch a) = pick (countedAt a) (leftAfter (matchesAfter (w .detector) a) (raisedFull (w .tiles) a)) (w .tiles)
 tilesBy w (cpuRead a) = w .tiles
 tilesBy w (cpuWrite a v) = w .tiles
 tilesBy w (ppuRegister a v) = w .tiles

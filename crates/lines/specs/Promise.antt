@@ -1,6 +1,6 @@
 -- Demand 3: "The history alone tells the scanline interrupt." Stated of any machine that keeps a detector: S are its states (with the
 -- memories), C its calls, and `Takes s c s'` says that the call c is accepted in s and leaves s'; `first` is the state that load leaves,
--- `view` where the detector lies, and `event` what it can tell of a call. In this crate the machine is the detector with its tile count;
+-- `view` where the detector lies, and `event` what it can tell of a call. In this crate the machine is the detector with the full tile count;
 -- in crate `histories` it is the whole board.
 -- Assumes nothing.
 use Prim.Native.Nat.{ℕ, _+_, _-_, _<_}
@@ -10,7 +10,7 @@ use mathlib.Core.Bool.{true, false}
 use mathlib.Core.List.{List, [], _∷_, _++_}
 use Rattle.scanline.specs.declared.Detector.{Detector}
 use Rattle.scanline.specs.Steps.{detectorAtLoad, interruptUp}
-use Rattle.scanline.specs.Tiles.{tilesOk}
+use Rattle.scanline.specs.Tiles.{fold, tilesOk}
 use Rattle.scanline.specs.Ranges.{detectorOk}
 use Rattle.lines.specs.Events.{Event}
 use Rattle.lines.specs.Told.{History, lineAt, lines, inFrame, Flagged, Up, Waiting, newLines, calm}
@@ -49,7 +49,7 @@ abbrev pub AnyMachine : Type 1
 AnyMachine = (S C : Type 0) (first : S) (Takes : S → C → S → Type 0) (view : S → Detector) (event : C → Event)
     → view first ≡ detectorAtLoad → ((s s' : S) (c : C) → Takes s c s' → view s' ≡ step (view s) (event c)) → Demand3 S C first Takes view event
 
--- the detector with its tile count, over the calls that it tells apart
+-- the detector with the full tile count, over the calls that it tells apart
 abbrev pub DetectorDemand3 : Type 0
 DetectorDemand3 = Demand3 Watched Event atLoad Taken (λ w. w .detector) (λ e. e)
 
@@ -57,6 +57,6 @@ DetectorDemand3 = Demand3 Watched Event atLoad Taken (λ w. w .detector) (λ e. 
 abbrev pub LedTo : History → Watched → Type 0
 LedTo h w = Played Watched Event atLoad Taken h w
 
--- accepted calls keep the detector and the tile count within 01's ranges, so that the code's own demands are met at every call
+-- accepted calls keep the detector, and what is kept of the tile count, within their ranges, so that the code's own demands are met at every call
 abbrev pub StaysInRange : Type 0
-StaysInRange = (h : History) (w : Watched) → LedTo h w → (detectorOk (w .detector) ≡ true) × (tilesOk (w .tiles) ≡ true)
+StaysInRange = (h : History) (w : Watched) → LedTo h w → (detectorOk (w .detector) ≡ true) × (tilesOk (fold (w .tiles)) ≡ true)

@@ -87,18 +87,18 @@ module _ {trace : List ℕ} {all : Left} {m₀ : Mem} {log₀ : List ℕ} {at co
         write-arm t n k f e en = goes trace all m₀ log₀ at count s m log call next found Nothing t n g (rw (k, en) (Made.write-made s m (g .gate) (addr .0) v t f e)) refl
 
     module _ {addr : PpuAddr} where
-      pub fetch-stop : call ≡ PpuFetch addr → counterRefused (s .irq) (s .ppu .«tile_number») (addr .0) ≡ true → ended (Stopped at Counter) s m log ≡ all
+      pub fetch-stop : call ≡ PpuFetch addr → counterRefused (s .irq) (addr .0) ≡ true → ended (Stopped at Counter) s m log ≡ all
       fetch-stop k t = stops trace all m₀ log₀ at count s m log call next found Counter s m g (rw k (ap (λ o. afterOf o m) (Made.fetch-refused s m (g .gate) (addr .0) t)))
 
       -- A fetch that is not refused, by what it gives.
-      fetch-made : (a : Answer) (t : State) → call ≡ PpuFetch addr → counterRefused (s .irq) (s .ppu .«tile_number») (addr .0) ≡ false → ppuFetch s m (addr .0) ≡ outcome a t → Onward next a t m
+      fetch-made : (a : Answer) (t : State) → call ≡ PpuFetch addr → counterRefused (s .irq) (addr .0) ≡ false → ppuFetch s m (addr .0) ≡ outcome a t → Onward next a t m
       fetch-made a t k f e =
           goes trace all m₀ log₀ at count s m log call next found a t m g (rw k (ap (λ o. afterOf o m) e)) (rw e at (who-is-refused .fetch-else s m (addr .0) (g .gate) f))
 
       -- A counted fetch, by the groups that it leaves.
       pub counted-arm : (d : Detector) (p : PpuStatus) (w : VSplit) (a : Answer)
           → call ≡ PpuFetch addr
-          → counterRefused (s .irq) (s .ppu .«tile_number») (addr .0) ≡ false
+          → counterRefused (s .irq) (addr .0) ≡ false
           → countedAt (addr .0) ≡ true
           → d ≡ countedIrq s (addr .0)
           → p ≡ countedPpu s (addr .0)
@@ -110,7 +110,7 @@ module _ {trace : List ℕ} {all : Left} {m₀ : Mem} {log₀ : List ℕ} {at co
       -- Any other fetch, by the set that it chooses and the state with the CHR table that the set shows.
       pub other-arm : (p : PpuStatus) (t : State) (a : Answer)
           → call ≡ PpuFetch addr
-          → counterRefused (s .irq) (s .ppu .«tile_number») (addr .0) ≡ false
+          → counterRefused (s .irq) (addr .0) ≡ false
           → countedAt (addr .0) ≡ false
           → p ≡ chosenAt (s .ppu) (s .irq .«in_frame») (addr .0)
           → t ≡ withChrPages s (patternPages s (p .«bg_set»))

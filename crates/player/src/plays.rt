@@ -165,7 +165,7 @@ pub fn play(
                 }
                 Call::PpuFetch(addr) => {
                     let a = addr.0;
-                    if scanline::counter_refused(t.irq, t.ppu.tile_number, a) {
+                    if scanline::counter_refused(t.irq, a) {
                         break Ending::Stopped(at, Refusal::Counter);
                     }
                     let k = (a / 1024 % 16) as usize;

@@ -39,7 +39,7 @@ elsewhere : (s : State) (m : Mem) (a : ℕ) → gateMem s m ≡ Open → counted
 unfolding ppuFetch patternCall
 elsewhere s m a h e =
     let P : Outcome → Type 0 = λ (o : Outcome). o .state .vsplit .«tile_addr» ≡ s .vsplit .«tile_addr» in
-    rw (h, e) (pick-keeps P (counterRefused (s .irq) (s .ppu .«tile_number») a) refl (pick-keeps P (ltb a 0x2000) refl refl))
+    rw (h, e) (pick-keeps P (counterRefused (s .irq) a) refl (pick-keeps P (ltb a 0x2000) refl refl))
 
 loads : (m : Mem) (asRam : Bool) (mirroring : Mirroring) → loadCall m asRam mirroring .state .vsplit .«tile_addr» ≤ 959
 unfolding loadCall loadedState

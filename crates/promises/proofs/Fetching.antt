@@ -47,17 +47,17 @@ split-keeps s a h =
     (name-keeps-ranges (s .vsplit) _ _ _ (scroll-small (countedIrq s a .scanline) (isPrefetched (countedPpu s a .«tile_number»)) (s .vsplit .scroll)) h) h
 
 module _ (s : State) (a : ℕ) (h : inRange s ≡ true) where
-  pub name-keeps-range : countedAt a ≡ true → counterRefused (s .irq) (s .ppu .«tile_number») a ≡ false → inRange (countedState s a) ≡ true
+  pub name-keeps-range : countedAt a ≡ true → counterRefused (s .irq) a ≡ false → inRange (countedState s a) ≡ true
   unfolding ppuSeen seenAt
   name-keeps-range counts free =
       let r = ranged s h in
       in-range (countedState s a) (record {
         lengths = r .lengths;
-        detector = ranges-kept .seen (s .irq) (s .ppu .«tile_number») a counts free (r .detector);
+        detector = ranges-kept .seen (s .irq) a counts free (r .detector);
         regs = r .regs;
         vsplit = split-keeps s a (r .vsplit);
         cache = cache-keeps (s .regs) (s .ppu .«tile_cache») (raisedBy (s .ppu .«tile_number») a) a (r .cache);
-        tiles = ranges-kept .tiles (s .irq) (s .ppu .«tile_number») a counts free (r .tiles);
+        tiles = ranges-kept .tiles (s .irq) (s .ppu .«tile_number») a (r .tiles);
         prg-pages = r .prg-pages;
         chr-pages = r .chr-pages;
       })
@@ -85,7 +85,7 @@ module _ (s : State) (m : Mem) (h : gateMem s m ≡ Open) where
   unfolding ppuFetch countedCall patternCall
   fetch-open a =
       let r = in-range-of s m h in
-      split (counterRefused (s .irq) (s .ppu .«tile_number») a)
+      split (counterRefused (s .irq) a)
       (λ t. rw (h, t) h)
       (λ free. rw (h, free)
       (split (countedAt a)

@@ -69,7 +69,7 @@ unfolding patternServed
 pattern-is-given g v d p e c a x h =
     pick-keeps Given (splitServes g v (d .«in_frame»)) refl (pick-keeps Given (attributeUse g && not (spriteFetch (p .«tile_number»))) refl h)
 
-fetch-is-given : (s : State) (m : Mem) (a : ℕ) → gateMem s m ≡ Open → counterRefused (s .irq) (s .ppu .«tile_number») a ≡ false → Given (ppuFetch s m a .answer)
+fetch-is-given : (s : State) (m : Mem) (a : ℕ) → gateMem s m ≡ Open → counterRefused (s .irq) a ≡ false → Given (ppuFetch s m a .answer)
 unfolding ppuFetch countedCall patternCall
 fetch-is-given s m a h free =
     rw (h, free)

@@ -45,8 +45,8 @@ pub record WhoIsRefused : Type 0 where
   pub write-audio-bytes : (s : State) (m : Mem) (a v : ℕ) → gateMem s m ≡ Open → audioWrite a ≡ true → cpuWrite s m a v .mem ≡ m
   pub write-else : (s : State) (m : Mem) (a v : ℕ) → gateMem s m ≡ Open → audioWrite a ≡ false → cpuWrite s m a v .out .answer ≡ Nothing
   -- fetches, and the PPU's other calls
-  pub fetch-counter : (s : State) (m : Mem) (a : ℕ) → gateMem s m ≡ Open → counterRefused (s .irq) (s .ppu .«tile_number») a ≡ true → RefusedWith 7 s (ppuFetch s m a)
-  pub fetch-else : (s : State) (m : Mem) (a : ℕ) → gateMem s m ≡ Open → counterRefused (s .irq) (s .ppu .«tile_number») a ≡ false → isRefused (ppuFetch s m a .answer) ≡ false
+  pub fetch-counter : (s : State) (m : Mem) (a : ℕ) → gateMem s m ≡ Open → counterRefused (s .irq) a ≡ true → RefusedWith 7 s (ppuFetch s m a)
+  pub fetch-else : (s : State) (m : Mem) (a : ℕ) → gateMem s m ≡ Open → counterRefused (s .irq) a ≡ false → isRefused (ppuFetch s m a .answer) ≡ false
   pub ppu-peek : (s : State) (m : Mem) (a : ℕ) → gateMem s m ≡ Open → isRefused (ppuPeek s m a) ≡ false
   pub sprite-peek : (s : State) (m : Mem) (a : ℕ) → gateMem s m ≡ Open → isRefused (spritePeek s m a) ≡ false
   pub ppu-write : (s : State) (m : Mem) (a v : ℕ) → gateMem s m ≡ Open → ppuWrite s m a v .out .answer ≡ Nothing

@@ -1,3 +1,4 @@
 pub mod ClockLaws
 pub mod StepLaws
+pub mod FoldLaws
 pub mod RangeLaws

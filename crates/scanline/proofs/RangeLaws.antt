@@ -1,15 +1,15 @@
 -- The ranges are kept: what `RangesKept` says, call by call.
 use Prim.Native.Nat.{ℕ, _+_, _%_, _<_, _≤_}
-use mathlib.Core.Path.{_≡_, refl, sym}
-use mathlib.Core.Bool.{Bool, true, false, _&&_, _||_, false≢true}
+use mathlib.Core.Path.{_≡_, refl}
+use mathlib.Core.Bool.{Bool, true, false}
 use native.Mathlib.Omega.{arith}
-use borrow.Author.Tests.{leb-true, le-leb, ltb-false}
-use lib.Dec.{leb, ltb}
+use borrow.Author.Tests.{leb-true, le-leb, ltb-false, eqb-false}
+use lib.Dec.{leb, eqb}
 use Rattle.memory.specs.Words.{pick}
-use Rattle.memory.proofs.Tests.{split, and-left, and-right, and-both}
+use Rattle.memory.proofs.Tests.{split, and-left, and-right, and-both, pick-keeps}
 use Rattle.scanline.specs.declared.Detector.{Detector}
 use Rattle.scanline.specs.Fetches.{countedAt, nameAt}
-use Rattle.scanline.specs.Tiles.{tilesOk, raisedBy, leftAfter, nextTile, tileRefused}
+use Rattle.scanline.specs.Tiles.{tilesOk, raisedBy, leftAfter, nextTile}
 use Rattle.scanline.specs.Clock.{tick}
 use Rattle.scanline.specs.Steps.{matchesAfter, isLine, lineNumber, seenAt, clocked}
 use Rattle.scanline.specs.Ranges.{detectorOk, lineRefused, counterRefused}
@@ -32,23 +32,10 @@ clock : Keeps clocked
 unfolding detectorOk tick
 clock d r = and-both _ _ (le-leb _ _ (ticked-idle (d .reading) (d .«idle_count»))) (le-leb (d .scanline) 65279 (line-ok d r))
 
--- a test that is false has each of its causes false
-cause-1 : (c x y : Bool) → c ≡ true → c && (x || y) ≡ false → x ≡ false
-cause-1 c true y p q = absurd (false≢true (sym (rw p at q)))
-cause-1 c false y p q = refl
-
-cause-2 : (c x y : Bool) → c ≡ true → c && (x || y) ≡ false → y ≡ false
-cause-2 c true y p q = absurd (false≢true (sym (rw p at q)))
-cause-2 c false y p q = rw p at q
-
-module _ (d : Detector) (t a : ℕ) (counts : countedAt a ≡ true) (taken : counterRefused d t a ≡ false) where
+module _ (d : Detector) (a : ℕ) (counts : countedAt a ≡ true) (taken : counterRefused d a ≡ false) where
   line-taken : lineRefused d a ≡ false
   unfolding counterRefused
-  line-taken = cause-2 (countedAt a) (tileRefused t a) (lineRefused d a) counts taken
-
-  tile-taken : tileRefused t a ≡ false
-  unfolding counterRefused
-  tile-taken = cause-1 (countedAt a) (tileRefused t a) (lineRefused d a) counts taken
+  line-taken = rw counts at taken
 
   line-after : d .scanline ≤ 65279 → pick (isLine d a) (lineNumber d) (d .scanline) ≤ 65279
   unfolding lineRefused
@@ -58,13 +45,18 @@ module _ (d : Detector) (t a : ℕ) (counts : countedAt a ≡ true) (taken : cou
   unfolding detectorOk seenAt
   seen r = and-both _ _ (le-leb (d .«idle_count») 2 (idle-ok d r)) (le-leb _ _ (line-after (line-ok d r)))
 
-  raised : tilesOk t ≡ true → tilesOk (raisedBy t a) ≡ true
-  unfolding tilesOk tileRefused nextTile
-  raised r = split (nameAt a) (λ n. rw n (le-leb (t + 1) 4294967293 (ltb-false 4294967293 (t + 1) (rw n at tile-taken)))) (λ n. rw n r)
+-- one tile more: 83 is followed by 42
+next-tile : (t : ℕ) → t ≤ 83 → nextTile t ≤ 83
+unfolding nextTile
+next-tile t p = split (eqb t 83) (λ e. rw e (omega arith)) (λ e. rw e (omega (arith, p, eqb-false t 83 e)))
 
-  tiles : tilesOk t ≡ true → tilesOk (leftAfter (matchesAfter d a) (raisedBy t a)) ≡ true
-  unfolding tilesOk
-  tiles r = split (leb 2 (matchesAfter d a)) (λ m. rw m) (λ m. rw m (raised r))
+raised : (t a : ℕ) → tilesOk t ≡ true → tilesOk (raisedBy t a) ≡ true
+unfolding tilesOk
+raised t a r = pick-keeps (λ (n : ℕ). leb n 83 ≡ true) (nameAt a) (le-leb (nextTile t) 83 (next-tile t (leb-true t 83 r))) r
+
+tiles : (d : Detector) (t a : ℕ) → tilesOk t ≡ true → tilesOk (leftAfter (matchesAfter d a) (raisedBy t a)) ≡ true
+unfolding tilesOk
+tiles d t a r = pick-keeps (λ (n : ℕ). leb n 83 ≡ true) (leb 2 (matchesAfter d a)) refl (raised t a r)
 
 pub ranges-kept : RangesKept
 unfolding detectorOk

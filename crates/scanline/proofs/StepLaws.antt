@@ -9,8 +9,7 @@ use Rattle.memory.specs.Bits.{bitSet}
 use Rattle.memory.specs.Words.{pick}
 use Rattle.memory.proofs.Tests.{same-test, split, and-false}
 use Rattle.scanline.specs.declared.Detector.{Detector}
-use Rattle.scanline.specs.Tiles.{columnOf, nextTile, tileRefused}
-use Rattle.scanline.specs.Fetches.{nameAt}
+use Rattle.scanline.specs.Tiles.{columnOf}
 use Rattle.scanline.specs.Steps.{matchesAfter, isLine, lineNumber, meets, withRun, seenAt}
 use Rattle.scanline.specs.Ranges.{lineRefused}
 
@@ -43,10 +42,6 @@ module _ (d : Detector) (a m : ℕ) (q : m ≡ matchesAfter d a) where
   pub line-over : eqb m 2 && (d .«in_frame» && ltb 65278 (d .scanline)) ≡ lineRefused d a
   unfolding lineRefused isLine
   line-over = rw (← q) (ap (λ (b : Bool). eqb m 2 && b) (split (d .«in_frame») (λ t. rw t (one-more 65278 (d .scanline))) (λ t. rw t)))
-
-pub tile-over : (t a : ℕ) (b : Bool) → b ≡ nameAt a → b && ltb 4294967292 t ≡ tileRefused t a
-unfolding tileRefused nextTile
-tile-over t a b q = rw (q, one-more 4294967292 t)
 
 -- the match count that a fetch leaves is what zeroes the tile count
 pub seen-matches : (d : Detector) (a : ℕ) → seenAt d a .«match_count» ≡ matchesAfter d a

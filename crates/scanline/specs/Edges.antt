@@ -7,7 +7,7 @@ use lib.Dec.{T}
 use Rattle.memory.specs.Cases.{Case, is, holds, fails, right}
 use Rattle.scanline.specs.declared.Detector.{Detector}
 use Rattle.scanline.specs.Fetches.{countedAt, attributeAt, nameAt}
-use Rattle.scanline.specs.Tiles.{spriteFetch, columnOf, isPrefetched, isFirst, tilesOk, raisedBy, leftAfter}
+use Rattle.scanline.specs.Tiles.{spriteFetch, columnOf, isPrefetched, isFirst, fold, tilesOk, raisedBy, leftAfter}
 use Rattle.scanline.specs.Steps.{matchesAfter, seenAt, clocked, broken, vectorRead, statusRead, targeted, enabledBy, statusOf, interruptUp}
 use Rattle.scanline.specs.Ranges.{detectorOk, counterRefused}
 
@@ -59,6 +59,11 @@ tiles =
     ∷ is (raisedBy 7 0x2000) 8
     ∷ is (raisedBy 7 0x23C0) 7
     ∷ is (raisedBy 7 0x3000) 7
+    -- CR 7: "so 83 is followed by 42"
+    ∷ is (raisedBy 41 0x2000) 42
+    ∷ is (raisedBy 82 0x2000) 83
+    ∷ is (raisedBy 83 0x2000) 42
+    ∷ is (raisedBy 83 0x23C0) 83
     -- the third of a run zeroes the count, and so does each equal after it
     ∷ is (leftAfter (matchesAfter (at 0 0 true 3 false) 0x2000) 8) 8
     ∷ is (leftAfter (matchesAfter (at 1 0 true 3 false) 0x2000) 8) 0
@@ -69,25 +74,41 @@ tiles =
 
 abbrev pub refusals : List Case
 refusals =
-    fails (counterRefused (at 1 0 true 65278 false) 0 0x2000)
-    ∷ holds (counterRefused (at 1 0 true 65279 false) 0 0x2000)
+    fails (counterRefused (at 1 0 true 65278 false) 0x2000)
+    ∷ holds (counterRefused (at 1 0 true 65279 false) 0x2000)
     -- the second and the fourth of a run make no line
-    ∷ fails (counterRefused (at 0 0 true 65279 false) 0 0x2000)
-    ∷ fails (counterRefused (at 2 0 true 65279 false) 0 0x2000)
+    ∷ fails (counterRefused (at 0 0 true 65279 false) 0x2000)
+    ∷ fails (counterRefused (at 2 0 true 65279 false) 0x2000)
     -- out of frame the line counter is what the last frame left
-    ∷ fails (counterRefused (at 1 0 false 65279 false) 0 0x2000)
-    ∷ fails (counterRefused (at 0 0 true 3 false) 4294967292 0x2000)
-    ∷ holds (counterRefused (at 0 0 true 3 false) 4294967293 0x2000)
-    -- even where the run then zeroes the count
-    ∷ holds (counterRefused (at 1 0 true 3 false) 4294967293 0x2000)
-    ∷ fails (counterRefused (at 1 0 true 3 false) 4294967293 0x23C0)
-    ∷ fails (counterRefused (at 1 0 true 3 false) 4294967293 0x3F00)
-    ∷ holds (tilesOk 4294967293)
-    ∷ fails (tilesOk 4294967294)
+    ∷ fails (counterRefused (at 1 0 false 65279 false) 0x2000)
+    ∷ holds (tilesOk 83)
+    ∷ fails (tilesOk 84)
     ∷ holds (detectorOk (at 0 2 true 65279 false))
     ∷ fails (detectorOk (at 0 3 true 65279 false))
     ∷ fails (detectorOk (at 0 2 true 65280 false))
     ∷ []
+
+-- CR 7: of a full count, what is kept, and the column of both
+abbrev row : ℕ → ℕ → ℕ → List Case → List Case
+row full kept column rows = is (fold full) kept ∷ is (columnOf full) column ∷ is (columnOf kept) column ∷ rows
+
+abbrev pub turns : List Case
+turns =
+    row 31 31 33
+    (row 32 32 34
+    (row 39 39 41
+    (row 40 40 0
+    (row 41 41 1
+    (row 42 42 2
+    (row 81 81 41
+    (row 82 82 0
+    (row 83 83 1
+    (row 84 42 2
+    (row 125 83 1
+    (row 126 42 2
+    (row 1000 76 36
+    (row 4294967293 43 3
+    [])))))))))))))
 
 abbrev pub calls : List Case
 calls =
@@ -111,4 +132,4 @@ calls =
     ∷ []
 
 abbrev pub Edges : Type 0
-Edges = T (right (addresses ++ (tiles ++ (refusals ++ calls))))
+Edges = T (right (addresses ++ (tiles ++ (refusals ++ (turns ++ calls)))))

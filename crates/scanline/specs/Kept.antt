@@ -1,5 +1,5 @@
--- Every call keeps the detector and the tile count within their ranges; a fetch does where refusal 7 is not given. And the clock over a
--- record changes its fields as the detector's clock does.
+-- Every call keeps the detector and the tile count within their ranges; a fetch keeps the detector's where refusal 7 is not given, and the tile
+-- count's always. And the clock over a record changes its fields as the detector's clock does.
 -- Proved in proofs/RangeLaws.antt and proofs/ClockLaws.antt, and pinned by the contract of `promises`.
 use Prim.Native.Nat.{ℕ, _<_, _≤_}
 use mathlib.Core.Path.{_≡_}
@@ -24,10 +24,10 @@ pub record RangesKept : Type 0 where
   pub status-read : Keeps statusRead
   pub target : (v : ℕ) → Keeps (λ d. targeted d v)
   pub enabled : (v : ℕ) → Keeps (λ d. enabledBy d v)
-  pub seen : (d : Detector) (t a : ℕ) → countedAt a ≡ true → counterRefused d t a ≡ false → detectorOk d ≡ true → detectorOk (seenAt d a) ≡ true
+  pub seen : (d : Detector) (a : ℕ) → countedAt a ≡ true → counterRefused d a ≡ false → detectorOk d ≡ true → detectorOk (seenAt d a) ≡ true
   -- the tile count between the fetch's parts, and after it
-  pub raised : (d : Detector) (t a : ℕ) → countedAt a ≡ true → counterRefused d t a ≡ false → tilesOk t ≡ true → tilesOk (raisedBy t a) ≡ true
-  pub tiles : (d : Detector) (t a : ℕ) → countedAt a ≡ true → counterRefused d t a ≡ false → tilesOk t ≡ true → tilesOk (leftAfter (matchesAfter d a) (raisedBy t a)) ≡ true
+  pub raised : (t a : ℕ) → tilesOk t ≡ true → tilesOk (raisedBy t a) ≡ true
+  pub tiles : (d : Detector) (t a : ℕ) → tilesOk t ≡ true → tilesOk (leftAfter (matchesAfter d a) (raisedBy t a)) ≡ true
   -- within the ranges no sum of lib.rt overflows
   pub idle-fits : (d : Detector) → detectorOk d ≡ true → d .«idle_count» ≤ 2
   pub line-fits : (d : Detector) → detectorOk d ≡ true → d .scanline < 65535

@@ -1,5 +1,6 @@
 pub mod Fetches
 pub mod Tiles
+pub mod Turns
 pub mod Clock
 pub mod Steps
 pub mod Ranges

@@ -1,7 +1,7 @@
--- The tile count: how a fetch moves it, what it may be, and the four looks at it.
-use Prim.Native.Nat.{ℕ, _+_, _%_}
+-- The tile count: how a fetch moves it, what it may be, and the four looks at it. CR 7: what is kept of a full count.
+use Prim.Native.Nat.{ℕ, _+_, _-_, _%_}
 use mathlib.Core.Bool.{Bool, _&&_}
-use lib.Dec.{leb, ltb}
+use lib.Dec.{leb, ltb, eqb}
 use Rattle.memory.specs.Words.{pick}
 use Rattle.scanline.specs.Fetches.{nameAt}
 
@@ -21,20 +21,20 @@ isPrefetched t = leb 40 t
 unfoldable pub isFirst : ℕ → Bool
 isFirst t = ltb t 42
 
--- What it may be. 01, "STATE ranges": "tile count .. within 7's limits".
-unfoldable pub tilesOk : ℕ → Bool
-tilesOk t = leb t 4294967293
+-- What is kept of a full count. CR 7: "Keep the count exactly up to 41; beyond that, 42 + ((count - 42) mod 42)".
+unfoldable pub fold : ℕ → ℕ
+fold n = pick (leb n 41) n (42 + (n - 42) % 42)
 
--- 01, "Fetches, runs, breaks": "tile count + 1 for a name fetch to $2FFF"
+-- What it may be. CR 7: "The state's range for it becomes 0 to 83."
+unfoldable pub tilesOk : ℕ → Bool
+tilesOk t = leb t 83
+
+-- 01, "Fetches, runs, breaks": "tile count + 1 for a name fetch to $2FFF"; CR 7: "so 83 is followed by 42"
 unfoldable pub nextTile : ℕ → ℕ
-nextTile t = t + 1
+nextTile t = pick (eqb t 83) 42 (t + 1)
 
 abbrev pub raisedBy : ℕ → ℕ → ℕ
 raisedBy t a = pick (nameAt a) (nextTile t) t
-
--- 01, refusal 7: "would need, even for a moment, a tile count above 4,294,967,293"
-unfoldable pub tileRefused : ℕ → ℕ → Bool
-tileRefused t a = nameAt a && ltb 4294967293 (nextTile t)
 
 -- "third and later equals zero the tile count": m equal fetches stood before this one, none from $3000 on (docs/DECISIONS.md, first reading)
 abbrev pub leftAfter : ℕ → ℕ → ℕ

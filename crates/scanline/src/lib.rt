@@ -8,6 +8,7 @@ ghost use Rattle.scanline.specs.Steps.{detectorAtLoad, matchesAfter, lin
 ghost use Rattle.scanline.specs.Ranges.{detectorOk, lineRefused, counterRefused};
 ghost use Rattle.scanline.specs.Kept.{RangesKept, SameClock};
 ghost use Rattle.scanline.specs.Edges.{Edges};
+ghost use Rattle.scanline.specs.Turns.{Turns, FourLooks};
 use memory::PpuAddr;
 
 pub mod record;
@@ -103,10 +104,10 @@ fn line_refused(d: Detector, addr: u16) -> bool
 }
 
 // Refusal 7.
-pub fn counter_refused(d: Detector, tile_count: u32, addr: u16) -> bool
-    ensures { λ r. ⌜ r ≡ counterRefused d «tile_count» addr ⌝ }
+pub fn counter_refused(d: Detector, addr: u16) -> bool
+    ensures { λ r. ⌜ r ≡ counterRefused d addr ⌝ }
 {
-    tiles::counted(addr) & (tiles::tile_refused(tile_count, addr) | line_refused(d, addr))
+    tiles::counted(addr) & line_refused(d, addr)
 }
 
 // A break: PPU $2001 written with bits 3 and 4 clear. The flag stands.
@@ -202,7 +203,7 @@ pub fn clock(d: Detector) -> Detector
     n
 }
 
-// Ties what specs/Kept.antt and specs/Edges.antt say to the crate: without their proofs this function is not proved.
+// Ties what specs/Kept.antt, specs/Turns.antt and specs/Edges.antt say to the crate: without their proofs this function is not proved.
 pub fn promises()
-    ensures { λ _. ⌜ RangesKept × SameClock × Edges ⌝ }
+    ensures { λ _. ⌜ RangesKept × SameClock × Turns × FourLooks × Edges ⌝ }
 {}

@@ -1,9 +1,10 @@
-// The tile count: name fetches so far in a line, and the four ways in which the board looks at it. Beside it, which fetches count.
-// 01, modules 5, 6 and 8, and "Fetches, runs, breaks"; in the Rust, `tile_number`. Nothing outside this file looks at the count's digits.
+// The tile count: name fetches so far in a line, kept as one of 84 numbers, and the four ways in which the board looks at it. Beside it, which
+// fetches count. 01, modules 5, 6 and 8, and "Fetches, runs, breaks", and CR 7; in the Rust, `tile_number`. Nothing outside this file looks at the
+// count's digits.
 ghost use mathlib.Core.Path.{_≡_};
 ghost use mathlib.Core.Bool.{true};
 ghost use Rattle.scanline.specs.Fetches.{countedAt, attributeAt, nameAt};
-ghost use Rattle.scanline.specs.Tiles.{spriteFetch, columnOf, isPrefetched, isFirst, tilesOk, tileRefused, raisedBy, leftAfter};
+ghost use Rattle.scanline.specs.Tiles.{spriteFetch, columnOf, isPrefetched, isFirst, tilesOk, nextTile, raisedBy, leftAfter};
 
 // $2000-$3EFF: "Only fetches at $2000-$3EFF count here."
 pub fn counted(addr: u16) -> bool
@@ -56,14 +57,18 @@ pub fn first_tiles(tiles: u32) -> bool
 pub fn tiles_ok(tiles: u32) -> bool
     ensures { λ r. ⌜ r ≡ tilesOk tiles ⌝ }
 {
-    tiles <= 4294967293
+    tiles <= 83
 }
 
-// The tile count would pass its limit, even where the run then zeroes it.
-pub fn tile_refused(tiles: u32, addr: u16) -> bool
-    ensures { λ r. ⌜ r ≡ tileRefused tiles addr ⌝ }
+// One more. From 42 on the four looks tell a count only from those of another column, so the counts 42 to 83 go round.
+fn next_tile(tiles: u32) -> u32
+    requires { ⌜ tilesOk tiles ≡ true ⌝ }
+    ensures { λ r. ⌜ r ≡ nextTile tiles ⌝ }
 {
-    name_fetch(addr) & (tiles > 4294967292)
+    if tiles == 83 {
+        return 42;
+    }
+    tiles + 1
 }
 
 // As the tile cache finds the count: one more for a name fetch.
@@ -71,8 +76,9 @@ pub fn tiles_raised(tiles: u32, addr: u16) -> u32
     requires { ⌜ tilesOk tiles ≡ true ⌝ }
     ensures { λ r. ⌜ r ≡ raisedBy tiles addr ⌝ }
 {
+    let more = next_tile(tiles);
     if name_fetch(addr) {
-        return tiles + 1;
+        return more;
     }
     tiles
 }

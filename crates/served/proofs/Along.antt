@@ -23,13 +23,12 @@ use Rattle.words.proofs.RoundLaws.{words-forth}
 use Rattle.told.specs.Told.{toldPlain, toldWith}
 use Rattle.host.specs.Hosted.{LeftWords, leftWords, leavingWords}
 use Rattle.host_looks.specs.Pages.{entryNumber, entryOn}
-use Rattle.lines.specs.Machine.{Watched}
 use Rattle.lines.specs.Promise.Played.{at-load, taken as going-on}
 use Rattle.histories.specs.Boards.{Board, Made, leaves, number, numberIn}
 use Rattle.histories.specs.Histories.{Load, first, Reached}
 use Rattle.histories.specs.Boards.Made.{call}
 use Rattle.histories.specs.Replays.{boardIn, replayOf}
-use Rattle.histories.proofs.Along.{Opened, open-along, load-watched}
+use Rattle.histories.proofs.Along.{Opened, open-along, starts}
 use Rattle.histories.proofs.GivenBack.{refusals}
 use Rattle.served.specs.Held.{Held, held, boardOf, heldOf, Hearing, Exchange, looking}
 use Rattle.served.specs.Held.Hearing.{number as hear}
@@ -65,7 +64,7 @@ load-accepted x p t =
 
 -- What an accepted load tells.
 load-tells : (l : Load) → toldWith (loadCall (l .mem) (l .as-ram) (l .mirroring) .answer) (first l .state .irq) ≡ toldPlain Nothing
-load-tells l = rw (l .accepted, ap (λ (w : Watched). w .detector) (load-watched l))
+load-tells l = rw (l .accepted, starts l)
 
 -- What is held -----------------------------------------------------------------------------------------------------------------------------
 

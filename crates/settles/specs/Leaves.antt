@@ -57,7 +57,6 @@ use Rattle.scanline.proofs.tiles.column.Reads as scanline-column
 use Rattle.scanline.proofs.tiles.prefetched.Reads as scanline-prefetched
 use Rattle.scanline.proofs.tiles.first_tiles.Reads as scanline-first-tiles
 use Rattle.scanline.proofs.tiles.tiles_ok.Reads as scanline-tiles-ok
-use Rattle.scanline.proofs.tiles.tile_refused.Reads as scanline-tile-refused
 use Rattle.scanline.proofs.tiles.tiles_raised.Reads as scanline-tiles-raised
 use Rattle.scanline.proofs.tiles.tiles_after.Reads as scanline-tiles-after
 use Rattle.split.proofs.control.new.Reads as split-new
@@ -173,7 +172,6 @@ pub record Scanline : Type 0 where
   pub prefetched : Result scanline-prefetched.Learnt
   pub first-tiles : Result scanline-first-tiles.Learnt
   pub tiles-ok : Result scanline-tiles-ok.Learnt
-  pub tile-refused : Result scanline-tile-refused.Learnt
   pub tiles-raised : Result scanline-tiles-raised.Learnt
   pub tiles-after : Result scanline-tiles-after.Learnt
 

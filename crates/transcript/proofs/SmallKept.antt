@@ -232,7 +232,7 @@ fetch-small : (s : State) (m : Mem) (a : ℕ) → SmallState s → SmallMem m �
 unfolding ppuFetch
 fetch-small s m a h k =
     behind-keeps SmallOut (gateMem s m) _ _ (λ why. refused-small s why h)
-    (pick-keeps SmallOut (counterRefused (s .irq) (s .ppu .«tile_number») a) (refused-small s Counter h)
+    (pick-keeps SmallOut (counterRefused (s .irq) a) (refused-small s Counter h)
     (pick-keeps SmallOut (countedAt a) (counted-call-small s m a h k)
     (pick-keeps SmallOut (ltb a 0x2000) (pattern-call-small s m a h k)
     (chr-small (s .«chr_pages») m a k, h))))

@@ -11,7 +11,7 @@ use Rattle.banks.specs.Placed.{placed}
 use Rattle.banks.specs.Prg.{prgValues, prgShown, windowsMapped, exramPage}
 use Rattle.banks.specs.Chr.{windowPages, chrNumber, chrMapped}
 use Rattle.banks.specs.Names.{selector, namePage, namesMapped}
-use Rattle.scanline.specs.Tiles.{nextTile, tileRefused, tilesOk, spriteFetch, isFirst, isPrefetched, columnOf}
+use Rattle.scanline.specs.Tiles.{nextTile, tilesOk, spriteFetch, isFirst, isPrefetched, columnOf}
 use Rattle.scanline.specs.Ranges.{lineRefused, counterRefused, detectorOk}
 use Rattle.scanline.specs.Clock.{tick}
 use Rattle.scanline.specs.Steps.{again, matchesAfter, isLine, meets, seenAt}
@@ -39,5 +39,5 @@ use Rattle.text.specs.Lines.{line}
 use Rattle.transcript.specs.Told.{toldFrom}
 
 pub worked-lines : toldFrom 22 worked 0 0 (loadCall cartridge false Horizontal .state) cartridge ≡ workedLines
-unfolding nextTile tileRefused tilesOk spriteFetch isFirst isPrefetched columnOf lineRefused counterRefused detectorOk tick again matchesAfter isLine meets seenAt offsetOf byteAt storedAt pageStored all prgShowsAs chrShowsAs wordNumber pageOf pageStart windowPage written regsOk placed prgValues prgShown windowsMapped exramPage windowPages chrNumber chrMapped selector namePage namesMapped sameLengths gateOf lengthsOk inRange chosen ppuAfter splitAfter irqAfter prgBanksAfter chrBanksAfter pageAnswer registerRead irqRead cpuAnswer prgPagesAfter chrPagesAfter registerWritten latched cpuStored cacheAfter ppuSeen splitSeen countedServed loadedState loadCall cpuRead cpuWrite clockCall statusTold detectorTold ppuRegisterCall countedCall ppuFetch chrAnswer grouped numeral limited numbered filled recordAt countedPages cartridge before line toldFrom
+unfolding nextTile tilesOk spriteFetch isFirst isPrefetched columnOf lineRefused counterRefused detectorOk tick again matchesAfter isLine meets seenAt offsetOf byteAt storedAt pageStored all prgShowsAs chrShowsAs wordNumber pageOf pageStart windowPage written regsOk placed prgValues prgShown windowsMapped exramPage windowPages chrNumber chrMapped selector namePage namesMapped sameLengths gateOf lengthsOk inRange chosen ppuAfter splitAfter irqAfter prgBanksAfter chrBanksAfter pageAnswer registerRead irqRead cpuAnswer prgPagesAfter chrPagesAfter registerWritten latched cpuStored cacheAfter ppuSeen splitSeen countedServed loadedState loadCall cpuRead cpuWrite clockCall statusTold detectorTold ppuRegisterCall countedCall ppuFetch chrAnswer grouped numeral limited numbered filled recordAt countedPages cartridge before line toldFrom
 worked-lines = refl

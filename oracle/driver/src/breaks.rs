@@ -63,7 +63,7 @@ fn broken(random: &mut Random, s: &mut State) -> (&'static str, u8) {
             ("line counter", 5)
         }
         11 => {
-            s.wide[5] = u32::MAX - random.below(2) as u32;
+            s.wide[5] = random.pick(&[84, 125, 4_294_967_293, u32::MAX]);
             ("tile count", 5)
         }
         12 => {

@@ -5,3 +5,4 @@ pub mod cartridges;
 pub mod pair;
 pub mod replays;
 pub mod speed;
+pub mod tiles;

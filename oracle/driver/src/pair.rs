@@ -1,9 +1,11 @@
 //! The two boards, and the comparison.
 
+use crate::tiles;
 use mmc5::{Answer as Told, Memory, State};
 use oracle::{
     board::{Answer, Board},
     cartridge::{BUFFERS, Cartridge, MIRRORINGS, fill_byte},
+    generate::random::Random,
     memory::Page,
     refusal::Refusal,
     show,
@@ -84,12 +86,16 @@ pub fn load(c: Cartridge) -> Result<Option<Pair>, String> {
 }
 
 impl Pair {
-    /// Sets both boards near the counters' limits: refusal 7 is then some fetches away.
-    pub fn near_limits(&mut self, random: &mut oracle::generate::random::Random) {
-        let tiles = 4_294_967_293 - random.below(60) as u32;
-        let line = 65_279 - random.below(6) as u16;
-        self.state.wide[5] = tiles;
+    /// Sets a tile count on both boards, a small one or one near the end of the Rust's reach: the port is given its fold.
+    pub fn with_tiles(&mut self, random: &mut Random) {
+        let tiles = if random.once_in(3) { tiles::REACH - random.below(100) as u32 } else { random.below(201) as u32 };
+        self.state.wide[5] = tiles::fold(tiles);
         self.rust.exrom.ppu_status.tile_number = tiles;
+    }
+
+    /// Sets both boards near the line counter's limit: refusal 7 is then some fetches away.
+    pub fn near_limit(&mut self, random: &mut Random) {
+        let line = 65_279 - random.below(6) as u16;
         self.state.halves[3] = line;
         self.rust.exrom.ppu_status.scanline = line;
         self.state.bytes[8] = 1;
@@ -121,8 +127,19 @@ impl Pair {
         Ok(())
     }
 
-    /// The call on both, with answer and interrupt compared, and after a fetch the split tile's address. True if the call was taken.
+    /// The tile count: the port's is the fold of the Rust's.
+    pub fn tile_count(&self) -> Result<(), String> {
+        let theirs = self.rust.exrom.ppu_status.tile_number;
+        let ours = self.state.wide[5];
+        if tiles::fold(theirs) != ours {
+            return Err(format!("tile count: the Rust {theirs}, the port {ours}"));
+        }
+        Ok(())
+    }
+
+    /// The call on both, with answer, interrupt and tile count compared, and after a fetch the split tile's address. True if the call was taken.
     pub fn call(&mut self, record: Record) -> Result<bool, String> {
+        tiles::within_reach(&mut self.rust, record);
         let theirs = in_words(self.rust.call(record));
         let ours = self.ours(record);
         if ours.answer != theirs {
@@ -131,6 +148,7 @@ impl Pair {
         if matches!(record, Record::PpuFetch(_)) {
             self.split_address().map_err(|why| format!("{record:?}: {why}"))?;
         }
+        self.tile_count().map_err(|why| format!("{record:?}: {why}"))?;
         let taken = !matches!(theirs, Told::Refused(_));
         if taken && ours.interrupt != self.rust.interrupt() {
             return Err(format!("{record:?}: interrupt, the Rust {}", self.rust.interrupt()));

@@ -1,6 +1,9 @@
 //! Whole traces: one replay call of the port against the Rust's replay of the same trace.
 
-use crate::pair::{Pair, in_words};
+use crate::{
+    pair::{Pair, in_words},
+    tiles,
+};
 use mmc5::{Answer, Stopped};
 use oracle::{
     generate::random::Random,
@@ -30,11 +33,11 @@ fn log_bytes(answer: Answer, interrupt: bool) -> [u8; 2] {
     [letter | u8::from(interrupt) << 7, value]
 }
 
-/// The trace on both boards: the ending, every byte of a log of so many bytes, then page tables and lent bytes.
+/// The trace on both boards: the ending, every byte of a log of so many bytes, then the tile count, page tables and lent bytes.
 fn play(pair: &mut Pair, trace: &[u8], room: usize, seen: &mut Seen) -> Result<(), String> {
     let mut wanted = Vec::new();
     let mut kinds = Vec::new();
-    let ending = replay::play(&mut pair.rust, trace, |board, _, record, answer| {
+    let ending = replay::play_after(&mut pair.rust, trace, tiles::within_reach, |board, _, record, answer| {
         wanted.extend(log_bytes(in_words(Ok(answer)), board.interrupt()));
         kinds.push(record);
     });
@@ -59,6 +62,7 @@ fn play(pair: &mut Pair, trace: &[u8], room: usize, seen: &mut Seen) -> Result<(
     seen.replays += 1;
     seen.records += kinds.len() as u64;
     seen.endings[theirs.err().map_or(0, |stopped| usize::from(stopped.refusal))] += 1;
+    pair.tile_count()?;
     pair.tables()?;
     pair.bytes()
 }

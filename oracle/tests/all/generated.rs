@@ -3,7 +3,7 @@
 use oracle::{
     board::Board,
     cases, generate,
-    refusal::{LINE_LIMIT, TILE_LIMIT},
+    refusal::LINE_LIMIT,
     replay::{self, End},
     show, spell,
     trace::{LONGEST, Reader},
@@ -77,7 +77,7 @@ fn check_state(board: &Board) {
     assert!(regs.vsplit.tile_addr <= 959);
     assert!(regs.vsplit.tile <= 31 && exrom.tile_cache <= 1_023 && regs.fill.attr <= 3);
     assert!(exrom.ppu_status.idle_count <= 2);
-    assert!(exrom.ppu_status.tile_number <= TILE_LIMIT && exrom.ppu_status.scanline <= LINE_LIMIT);
+    assert!(exrom.ppu_status.scanline <= LINE_LIMIT);
     assert!(regs.prg_ram_protect.iter().all(|&protect| protect <= 3));
     assert!([0, 256, 512, 768].contains(&regs.chr_hi));
     let product = u16::from(regs.multiplicand) * u16::from(regs.multiplier);

@@ -42,8 +42,11 @@ fn trace(random: &mut Random, seen: &mut Seen) -> Result<(), String> {
     let Some(mut pair) = pair::load(cartridges::good(random))? else {
         return Err("a good cartridge was refused".into());
     };
+    if random.once_in(2) {
+        pair.with_tiles(random);
+    }
     if random.once_in(4) {
-        pair.near_limits(random);
+        pair.near_limit(random);
     }
     let kind = random.pick(&["play", "play", "wild", "wild", "damaged"]);
     let records = 1 + random.below(3_000);

@@ -1,4 +1,4 @@
--- The ranges and that refusal 7 was not given meet what the callees require; each group is what its callee says.
+-- The ranges meet what the callees require; each group is what its callee says.
 use Rattle.scanline.specs.Steps.{seenAt}
 use Rattle.scanline.proofs.RangeLaws.{ranges-kept}
 use Rattle.ppu.specs.Fetches.{ppuSeen}
@@ -11,7 +11,7 @@ seen-requires c κs = ranges-kept .line-fits _ (c .pre .0)
 
 split-seen-requires : tie.Need-split-seen-requires
 unfolding ppuSeen seenAt
-split-seen-requires c κs = rw (c .ppu-seen .ensures, c .before .seen .ensures) (ranges-kept .tiles _ _ _ (c .before .before .pre .1 .1 .0) (c .before .before .pre .1 .1 .1) (c .before .before .pre .1 .0))
+split-seen-requires c κs = rw (c .ppu-seen .ensures, c .before .seen .ensures) (ranges-kept .tiles _ _ _ (c .before .before .pre .1))
 
 returns : tie.Need-returns
 returns c = (c .before .before .seen .ensures, (rw (← c .before .before .seen .ensures) (c .before .ppu-seen .ensures), rw (← c .before .before .seen .ensures, ← c .before .ppu-seen .ensures) (c .split-seen .ensures)))

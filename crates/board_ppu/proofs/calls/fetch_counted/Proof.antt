@@ -1,4 +1,4 @@
--- The ranges and that refusal 7 was not given meet what the callees require (`ranges-kept`); each group is what its callee says.
+-- The ranges meet what the callees require (`ranges-kept`); each group is what its callee says.
 use borrow.Author.Needs.{needs}
 use Rattle.board_ppu.specs.Fetch.{countedCall}
 use Rattle.ppu.specs.Fetches.{ppuSeen}
@@ -9,17 +9,17 @@ use Rattle.board_ppu.proofs.calls.fetch_counted.Statement.{statement}
 use Rattle.board_ppu.proofs.calls.fetch_counted.Tie as tie
 
 seen-requires : tie.Need-seen-requires
-seen-requires c κs = ranges-kept .line-fits _ (ranged _ (c .before .before .before .before .before .before .pre .0) .detector)
+seen-requires c κs = ranges-kept .line-fits _ (ranged _ (c .before .before .before .before .before .before .pre) .detector)
 
 ppu-seen-requires : tie.Need-ppu-seen-requires
-ppu-seen-requires c κs = ranged _ (c .before .before .before .before .before .before .before .pre .0) .tiles
+ppu-seen-requires c κs = ranged _ (c .before .before .before .before .before .before .before .pre) .tiles
 
 split-seen-requires : tie.Need-split-seen-requires
 unfolding ppuSeen seenAt
 split-seen-requires c κs =
     let at-pre = c .before .before .before .before .before .before .before .before in
     rw (c .ppu-seen .ensures, c .before .seen .ensures)
-    (ranges-kept .tiles _ _ _ (at-pre .pre .1 .0) (at-pre .pre .1 .1) (ranged _ (at-pre .pre .0) .tiles))
+    (ranges-kept .tiles _ _ _ (ranged _ (at-pre .pre) .tiles))
 
 returns : tie.Need-returns
 unfolding countedCall

@@ -23,10 +23,8 @@ returns-2 c =
 
 fetch-counted-requires : tie.Need-fetch-counted-requires
 fetch-counted-requires c κs =
-    let at-enum-told = c .before .before .before .before in (
-      open-in-range _ _ _ _ _ _ (sym (at-enum-told .before .before .passed .ensures) ∙ at-enum-told .enum-told .given .1),
-      (sym (c .before .counted .ensures) ∙ c .if2 .taken, sym (c .before .before .before .counter-refused .ensures) ∙ c .before .before .if1 .left),
-    )
+    let at-enum-told = c .before .before .before .before in
+    open-in-range _ _ _ _ _ _ (sym (at-enum-told .before .before .passed .ensures) ∙ at-enum-told .enum-told .given .1)
 
 returns-3 : tie.Need-returns-3
 unfolding ppuFetch

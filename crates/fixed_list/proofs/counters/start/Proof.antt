@@ -16,8 +16,8 @@ returns-2 c = rw (eq-eqb _ _ (c .before .if1 .left), lt-leb _ _ (c .if2 .taken))
 returns-3 : tie.Need-returns-3
 unfolding startOf
 returns-3 c =
-    rw (eq-eqb _ _ (c .before .before .before .before .if1 .left), le-leb _ _ (c .before .before .before .if2 .left), ← c .before .before .line-of .ensures, ← c .before .tile-of .ensures)
+    rw (eq-eqb _ _ (c .before .before .before .before .before .if1 .left), le-leb _ _ (c .before .before .before .before .if2 .left), ← c .before .before .before .line-of .ensures, ← c .before .before .tile-of .ensures, ← c .before .kept .ensures)
     (c .in-frame .ensures)
 
 pub start-spec : {M : Type 1} → statement M
-start-spec = tie.close (tie.spec returns returns-2 (λ c κs. search needs) (λ c κs. search needs) (λ c κs. search needs) returns-3)
+start-spec = tie.close (tie.spec returns returns-2 (λ c κs. search needs) (λ c κs. search needs) (λ c κs. search needs) (λ c κs. search needs) returns-3)

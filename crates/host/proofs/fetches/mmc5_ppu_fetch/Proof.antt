@@ -1,4 +1,4 @@
--- A shut gate and a counter at its limit are refused and leave the words; else the groups that the fetch changes are put back.
+-- A shut gate and a line counter at its limit are refused and leave the words; else the groups that the fetch changes are put back.
 use mathlib.Core.Bool.{true, false}
 use mathlib.Core.Path.{sym, _∙_}
 use Rattle.memory.specs.Bytes.{memOf}
@@ -37,7 +37,7 @@ returns-2 c =
     let m = memOf (a .prg .now) (a .chr .now) (a .ram .now) (a .ciram .now) (a .exram .now) in
     let entered = opened w m _ (at-passed .passed .ensures) (at-enum-told .enum-told .given .1) in
     let at-limit =
-    not-refused (stateOf w) _ _ true _ _ (at-detector-of .detector-of .ensures) (at-status-of .status-of .ensures)
+    not-refused (stateOf w) _ _ true _ (at-detector-of .detector-of .ensures)
     (at-counter-refused .counter-refused .ensures) (c .before .if1 .taken)
     in
     refused-left w _ _ _ (open-sound w m _ (at-known .known .ensures) (at-passed .passed .ensures) (at-enum-told .enum-told .given .1))
@@ -58,10 +58,7 @@ count-fetch-requires c κs =
     let m = memOf (a .prg .now) (a .chr .now) (a .ram .now) (a .ciram .now) (a .exram .now) in
     let entered = opened w m _ (at-passed .passed .ensures) (at-enum-told .enum-told .given .1) in (
       detector-ranged (stateOf w) m _ entered (at-detector-of .detector-of .ensures),
-      (
-        tiles-ranged (stateOf w) m _ entered (at-status-of .status-of .ensures),
-        ((sym (c .before .counted .ensures) ∙ c .if2 .taken), sym (at-counter-refused .counter-refused .ensures) ∙ at-if1 .if1 .left),
-      ),
+      tiles-ranged (stateOf w) m _ entered (at-status-of .status-of .ensures),
     )
 
 returns-3 : tie.Need-returns-3
@@ -89,7 +86,7 @@ returns-3 c =
     let m = memOf (a .prg .now) (a .chr .now) (a .ram .now) (a .ciram .now) (a .exram .now) in
     let entered = opened w m _ (at-passed .passed .ensures) (at-enum-told .enum-told .given .1) in
     let in-limit =
-    not-refused (stateOf w) _ _ false _ _ (at-detector-of .detector-of .ensures) (at-status-of .status-of .ensures)
+    not-refused (stateOf w) _ _ false _ (at-detector-of .detector-of .ensures)
     (at-counter-refused .counter-refused .ensures) (at-if1 .if1 .left)
     in
     let done =
@@ -130,7 +127,7 @@ returns-4 c =
     let m = memOf (a .prg .now) (a .chr .now) (a .ram .now) (a .ciram .now) (a .exram .now) in
     let entered = opened w m _ (at-passed .passed .ensures) (at-enum-told .enum-told .given .1) in
     let in-limit =
-    not-refused (stateOf w) _ _ false _ _ (at-detector-of .detector-of .ensures) (at-status-of .status-of .ensures)
+    not-refused (stateOf w) _ _ false _ (at-detector-of .detector-of .ensures)
     (at-counter-refused .counter-refused .ensures) (at-if1 .if1 .left)
     in
     other-left w m _ _ _ _ _ _ _ _ _ _ _

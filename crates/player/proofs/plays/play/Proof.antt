@@ -162,7 +162,7 @@ loop-again-6 c =
     register-arm (going r) (stands r) (p .status-told .result) (d .detector-told .result) (p .before .before .before .call3 .given .1)
     (p .status-told .ensures) (d .detector-told .ensures) (w .last .0) (w .ensures)
 
--- A PPU fetch: past the test for the counters, and a counted one.
+-- A PPU fetch: past the test for the line counter, and a counted one.
 abbrev fetch-found : tie.Else5 Inv-loop μ-loop → Found
 fetch-found c = c .before .before .before .before .before .before
 
@@ -173,8 +173,7 @@ returns-5 c =
 
 count-fetch-requires : tie.Need-count-fetch-requires Inv-loop μ-loop
 count-fetch-requires c κs =
-    let t = c .before .before .before .before in let e = t .before .before in let k = going-ranged (going (fetch-found e)) in
-    (k .detector, (k .tiles, (sym (t .before .counted .ensures) ∙ t .if6 .taken, sym (e .before .counter-refused .ensures) ∙ e .if5 .left)))
+    let e = c .before .before .before .before .before .before in let k = going-ranged (going (fetch-found e)) in (k .detector, k .tiles)
 
 abbrev counted : tie.After-log-record-arg9 Inv-loop μ-loop → tie.Then6 Inv-loop μ-loop
 counted c = c .before .before .before .before .before .before .before .before .before .before .before .before .before .before .before .before

@@ -8,7 +8,7 @@ use Rattle.scanline.proofs.tiles.column.Tie as tie
 
 add-result : tie.Need-add-result
 unfolding tilesOk
-add-result c = omega (arith, leb-true (c .args .tiles) 4294967293 (c .pre))
+add-result c = omega (arith, leb-true (c .args .tiles) 83 (c .pre))
 
 returns : tie.Need-returns
 unfolding columnOf

@@ -1,0 +1,4 @@
+pub mod Full
+pub mod Same
+pub mod Along
+pub mod Worked
