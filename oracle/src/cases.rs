@@ -7,7 +7,7 @@
 //! length / 8,192 in two bytes, low one first; CHR length / 1,024 likewise; PRG-RAM length / 1,024 in
 //! one; 1 if CHR is writable, else 0; the mirroring's number; the fill seed; the trace's length in
 //! two bytes, low one first; the trace; the number of peeks in one byte, and the peeks; the line
-//! counter in two bytes and the tile count in four, low ones first.
+//! counter in two bytes and the full tile count in four, low ones first.
 
 use crate::{
     board::Board,

@@ -36,11 +36,11 @@ pub fn play(
     trace: &[u8],
     see: impl FnMut(&Board, usize, Record, Answer),
 ) -> End {
-    play_after(board, trace, |_, _| {}, see)
+    play_with(board, trace, |_, _| {}, see)
 }
 
 /// The same, with something done to the board before every record.
-pub fn play_after(
+pub fn play_with(
     board: &mut Board,
     trace: &[u8],
     mut before: impl FnMut(&mut Board, Record),

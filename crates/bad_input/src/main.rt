@@ -1,5 +1,5 @@
-// What bad input gets: wrong lengths, each range of the state broken one at a time, each audio register, fetches at the counters' limits. One line
-// each: what was tried, and the refusal's number or `taken`. The file `stdout` is written from document 01's table of refusals.
+// What bad input gets: wrong lengths, each range of the state broken one at a time, each audio register, fetches at the line
+// counter's limit and where the tile count turns over. One line each: what was tried, and the refusal's number or `taken`. The file `stdout` is written from document 01's table of refusals.
 ghost use Prim.Native.Nat.{_≤_};
 ghost use lib.ListN.{length};
 use answers::Answer;

@@ -45,7 +45,8 @@ use Rattle.promises.specs.Loading.{goodPrg, goodChr, goodRam}
 use Rattle.promises.proofs.Loadings.{load-refusals}
 use Rattle.histories.specs.Boards.{Board, Made, says, leaves, boardAfter, number, numberIn}
 use Rattle.histories.specs.Histories.{Load, first, Reached}
-use Rattle.cases.specs.Edges.{lent, start, loadAccepted, accepted, seen, comes, inTurn, edges, shutOut, Edges, ShutOut, onto, CasesAreHistories}
+use Rattle.histories.specs.Shorthand.{inTurn}
+use Rattle.cases.specs.Edges.{lent, start, loadAccepted, accepted, seen, comes, edges, shutOut, Edges, ShutOut, onto, CasesAreHistories}
 use Rattle.histories.proofs.Behind.{no-zero}
 
 -- What the cases come to.

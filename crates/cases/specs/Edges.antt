@@ -2,7 +2,7 @@
 -- statement". Each case is a history of the board from load, and what is then seen. The lists are `edges` and, for the boards that 01 shuts out
 -- by name, `shutOut`; below them what is promised of both.
 -- Assumes nothing.
-use Prim.Native.Nat.{ℕ, zero, suc, _*_}
+use Prim.Native.Nat.{ℕ, _*_}
 use mathlib.Core.Bool.{Bool, true, false, _&&_}
 use mathlib.Core.Path.{_≡_}
 use mathlib.Core.List.{List, [], _∷_, _++_, map}
@@ -21,7 +21,7 @@ use Rattle.board.specs.Loads.{loadCall}
 use Rattle.board_ppu.specs.Peeks.{chrWordAt}
 use Rattle.histories.specs.Boards.{Board, Made, says, leaves, boardAfter, number, numberIn}
 use Rattle.histories.specs.Histories.{Load, Reached}
-use Rattle.histories.specs.Shorthand.{read, write, tell, fetch, clock}
+use Rattle.histories.specs.Shorthand.{read, write, tell, fetch, clock, inTurn}
 
 -- Where a case looks: at what a CPU read answers from a register (letter `R`) or from a page (`M`), at a byte of ExRAM, at the number of the CHR
 -- page that a place of the CHR table shows, or at the split's tile address.
@@ -90,11 +90,6 @@ comes c = pick (loadAccepted c && accepted (start c) (c .calls)) (seen (end c) (
 
 abbrev pub threeFetches : List Made
 threeFetches = fetch 0x2000 ∷ fetch 0x2000 ∷ fetch 0x2000 ∷ []
-
--- n fetches of two addresses in turn.
-unfoldable pub inTurn : ℕ → ℕ → ℕ → List Made
-inTurn zero a a' = []
-inTurn (suc n) a a' = fetch a ∷ inTurn n a' a
 
 -- Nametable use, split at tile 3, scroll 239; then line 0 and n name fetches, the last at column n + 2. The region is clear after load, and
 -- column 3 flips it.

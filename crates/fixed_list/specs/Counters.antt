@@ -43,7 +43,7 @@ withTile p tile =
 abbrev pub inFrame : ℕ → ℕ → State → State
 inFrame line tile s = withPpu (withIrq s (withLine (s .irq) line)) (withTile (s .ppu) tile)
 
--- A case starts so, with the fold of its tile count, whose first byte is "3 if it has counters", where all six bytes are there; every other one starts from
--- the state as it is.
+-- A case whose first byte is "3 if it has counters" starts so, with the fold of its tile count, where all six bytes are there; every other one starts from the
+-- state as it is.
 unfoldable pub startOf : ℕ → List ℕ → State → State
 startOf kind b s = pick (eqb kind 3 && leb 6 (length b)) (inFrame (lineOf b) (fold (tileOf b)) s) s

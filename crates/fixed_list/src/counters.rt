@@ -1,4 +1,5 @@
-// The counters of a case: the line counter in two bytes and the full tile count in four, low ones first. No short trace comes near their limits.
+// The counters of a case: the line counter in two bytes and the full tile count in four, low ones first. No short trace
+// brings the line counter near its limit, or the Rust's tile count near the end of its 32 bits.
 ghost use mathlib.Core.Path.{_≡_};
 ghost use Prim.Native.Nat.{_<_};
 ghost use lib.ListN.{length};

@@ -1,85 +1,69 @@
--- `AlongFull`: along a history the board is what is kept of the full one, call by call by `same-done`; the full count is the one that the calls tell. And how
+-- `AlongFull`: along a history the board is what is kept of the full one, call by call by `same-board`; the full count is the one that the calls tell. And how
 -- far the Rust's 32 bits reach.
 use Prim.Native.Nat.{ℕ, _+_, _%_, _<_}
-use mathlib.Core.Bool.{Bool, not}
-use mathlib.Core.List.{List, [], _∷_}
+use mathlib.Core.Bool.{Bool}
+use mathlib.Core.List.{List}
 use mathlib.Core.Path.{_≡_, refl, sym, _∙_, ap}
 use native.Mathlib.Omega.{arith}
 use lib.Dec.{eqb, ltb}
-use lib.ListN.{length}
-use Rattle.memory.specs.declared.PpuAddr.{PpuAddr}
 use Rattle.memory.specs.Bytes.{Mem}
 use Rattle.memory.proofs.Tests.{split, pick-keeps}
 use Rattle.scanline.specs.declared.Detector.{Detector}
 use Rattle.scanline.specs.Fetches.{countedAt}
 use Rattle.scanline.specs.Steps.{seenAt}
 use Rattle.scanline.specs.Tiles.{fold, columnOf}
+use Rattle.state.specs.declared.gate.Gate.the-variants.{Open}
 use Rattle.state.specs.declared.PpuStatus.{PpuStatus}
 use Rattle.state.specs.declared.State.{State}
 use Rattle.state.specs.Gate.{gateMem}
-use Rattle.state.specs.Lengths.{prgTaken, chrTaken, ramTaken}
 use Rattle.cpu.specs.Chosen.{chosen, ppuAfter}
 use Rattle.cpu.specs.Groups.{within}
 use Rattle.cpu.specs.Writes.{registerWritten}
-use Rattle.board.specs.declared.Outcome.{Outcome}
-use Rattle.board.specs.Loads.{loadCall, loadedState}
-use Rattle.board.specs.Outcomes.{After}
+use Rattle.board.specs.Loads.{loadedState}
 use Rattle.board.specs.Whole.{statusTold}
 use Rattle.board_ppu.specs.Fetch.{patternCall}
-use Rattle.board_ppu.specs.Peeks.{ppuPeek}
 use Rattle.trace.specs.declared.Call.{Call}
 use Rattle.trace.specs.declared.Call.the-variants.{Clock, CpuRead, CpuWrite, PpuRegister, PpuFetch, Reset, PpuWrite}
-use Rattle.calls.specs.Called.{called}
-use Rattle.lines.specs.Told.{History}
-use Rattle.lines.specs.Machine.{step, run, Watched, watched, tilesBy}
+use Rattle.lines.specs.Machine.{Watched, watched, tilesBy}
 use Rattle.lines.specs.Promise.{historyOf}
 use Rattle.lines.specs.Promise.Played.{at-load, taken}
+use Rattle.lines.proofs.Transfer.{run-is}
+use Rattle.histories.specs.Accepted.{refusal}
 use Rattle.histories.specs.Boards.{Board, Made, says, leaves, number}
 use Rattle.histories.specs.Boards.Made.{call, peek, ppu-peek, sprite-peek, mirroring-asked, interrupt-asked, cpu-page, ppu-page}
-use Rattle.histories.specs.Boards.Said.{answers}
-use Rattle.histories.specs.Histories.{Load, first, Takes, Reached, view, event}
-use Rattle.histories.proofs.Along.{open-along, told-along}
-use Rattle.histories.proofs.Behind.{done, accepted-passes}
-use Rattle.folds.specs.Full.{keptState, keptBoard, keptAfter, fullSeen, fullCounted, fullCalled, fullPeek, fullLeaves, fullAfter}
+use Rattle.histories.specs.Histories.{Load, first, Reached, view, event}
+use Rattle.histories.proofs.Along.{open-along, at-first, told-along}
+use Rattle.histories.proofs.Behind.{exactly}
+use Rattle.folds.specs.Full.{keptState, keptBoard, fullSeen, fullCounted, fullCalled, fullSays, fullLeaves, fullAfter}
 use Rattle.folds.specs.Along.{AlongFull, RustReaches}
-use Rattle.folds.proofs.SameLaws.{same-done, peeked}
+use Rattle.folds.proofs.SameLaws.{same-board}
 
 -- What is kept ------------------------------------------------------------------------------------------------------------------------------
 
+-- an accepted call after a history, on a board that is what is kept of a full one
+module _ (l : Load) {cs : List Made} {b : Board} (r : Reached l cs b) (full : Board) (e : b ≡ keptBoard full) (c : Made) (n : number (says b c) ≡ 0) where
+  gate : gateMem (keptState (full .state)) (full .mem) ≡ Open
+  gate = sym (ap (λ (x : Board). gateMem (x .state) (x .mem)) e) ∙ open-along l r
+
+  free : refusal (view full) c ≡ 0
+  free = sym (ap (λ (x : Board). refusal (view x) c) e) ∙ sym (exactly b c (open-along l r)) ∙ n
+
+  left-on : leaves b c ≡ keptBoard (fullLeaves full c)
+  left-on = ap (λ (x : Board). leaves x c) e ∙ same-board .left full c gate free
+
+  said-on : says b c ≡ fullSays full c
+  said-on = ap (λ (x : Board). says x c) e ∙ same-board .said full c gate free
+
 load-kept : (l : Load) → first l ≡ keptBoard (first l)
-unfolding loadCall loadedState fold
-load-kept l =
-    let P : Outcome → Type 0 = λ (o : Outcome). _≡_ {A = Board} (record { state = o .state; mem = l .mem }) (record { state = keptState (o .state); mem = l .mem }) in
-    pick-keeps P (not (prgTaken (length (l .mem .prg)))) refl
-    (pick-keeps P (not (chrTaken (length (l .mem .chr)))) refl
-    (pick-keeps P (not (ramTaken (length (l .mem .ram)) (length (l .mem .ciram)) (length (l .mem .exram)))) refl refl))
-
--- an accepted call, on what is kept of a full board
-made-on : (b full : Board) (c : Call) → number (says b (call c)) ≡ 0 → b ≡ keptBoard full → called c (b .state) (b .mem) ≡ keptAfter (fullCalled c (full .state) (full .mem))
-made-on b full c n e = accepted-passes b c n .0 ∙ ap (λ (x : Board). done c (x .state) (x .mem)) e ∙ same-done c (full .state) (full .mem)
-
-kept-on : (b full : Board) (c : Made) → number (says b c) ≡ 0 → b ≡ keptBoard full → leaves b c ≡ keptBoard (fullLeaves full c)
-unfolding leaves fullLeaves
-kept-on b full (call c) n e = ap (λ (x : After). record { state = x .out .state; mem = x .mem }) (made-on b full c n e)
-kept-on b full (peek a) n e = e
-kept-on b full (ppu-peek a) n e = e
-kept-on b full (sprite-peek a) n e = e
-kept-on b full mirroring-asked n e = e
-kept-on b full interrupt-asked n e = e
-kept-on b full (cpu-page a) n e = e
-kept-on b full (ppu-page a) n e = e
+unfolding loadedState fold
+load-kept l = ap (λ (s : State). record { state = s; mem = l .mem }) (at-first l (λ (s : State). s ≡ keptState s) refl (λ z m. refl))
 
 kept-along : (l : Load) {cs : List Made} {b : Board} → Reached l cs b → b ≡ keptBoard (fullAfter (first l) cs)
 unfolding fullAfter
 kept-along l at-load = load-kept l
-kept-along l (taken {cs = cs} {s = b} c r t) = t .left ∙ kept-on b (fullAfter (first l) cs) c (t .accepted) (kept-along l r)
+kept-along l (taken {cs = cs} {s = b} c r t) = t .left ∙ left-on l r (fullAfter (first l) cs) (kept-along l r) c (t .accepted)
 
 -- The full count, told by the calls alone ----------------------------------------------------------------------------------------------------
-
-run-is : (h : History) → run h ≡ watched h .detector
-unfolding run watched
-run-is [] = refl
-run-is (e ∷ h) = ap (λ (d : Detector). step d e) (run-is h)
 
 detector : (l : Load) {cs : List Made} {b : Board} → Reached l cs b → view b ≡ watched (historyOf event cs) .detector
 detector l {cs} r = told-along l r ∙ run-is (historyOf event cs)
@@ -88,21 +72,20 @@ detector l {cs} r = told-along l r ∙ run-is (historyOf event cs)
 choice-tiles : (p : PpuStatus) (f : Bool) (a : ℕ) → ppuAfter p f a .«tile_number» ≡ p .«tile_number»
 unfolding ppuAfter chosen
 choice-tiles p f a =
-    pick-keeps (λ (q : PpuStatus). q .«tile_number» ≡ p .«tile_number») (eqb a 0x5101) refl
-    (pick-keeps (λ (q : PpuStatus). q .«tile_number» ≡ p .«tile_number») (within 0x5120 0x5127 a) refl
-    (pick-keeps (λ (q : PpuStatus). q .«tile_number» ≡ p .«tile_number») (within 0x5128 0x512B a) refl refl))
+    let P : PpuStatus → Type 0 = λ (q : PpuStatus). q .«tile_number» ≡ p .«tile_number» in
+    pick-keeps P (eqb a 0x5101) refl (pick-keeps P (within 0x5120 0x5127 a) refl (pick-keeps P (within 0x5128 0x512B a) refl refl))
 
 told-tiles : (p : PpuStatus) (a v : ℕ) → statusTold p a v .«tile_number» ≡ p .«tile_number»
 unfolding statusTold
 told-tiles p a v =
-    pick-keeps (λ (q : PpuStatus). q .«tile_number» ≡ p .«tile_number») (eqb a 0x2000) refl
-    (pick-keeps (λ (q : PpuStatus). q .«tile_number» ≡ p .«tile_number») (eqb a 0x2001) refl refl)
+    let P : PpuStatus → Type 0 = λ (q : PpuStatus). q .«tile_number» ≡ p .«tile_number» in
+    pick-keeps P (eqb a 0x2000) refl (pick-keeps P (eqb a 0x2001) refl refl)
 
 abbrev seen : State → Watched
 seen s = record { detector = s .irq; tiles = s .ppu .«tile_number» }
 
 made-counts : (c : Call) (s : State) (m : Mem) → fullCalled c s m .out .state .ppu .«tile_number» ≡ tilesBy (seen s) (event (call c))
-unfolding tilesBy fullCalled registerWritten fullCounted fullSeen seenAt patternCall chosen
+unfolding tilesBy registerWritten fullCounted fullSeen seenAt patternCall chosen
 made-counts Clock s m = refl
 made-counts (CpuRead a) s m = refl
 made-counts (CpuWrite a v) s m = choice-tiles (s .ppu) (s .irq .«in_frame») (a .0)
@@ -123,12 +106,8 @@ counts-on b (cpu-page a) = refl
 counts-on b (ppu-page a) = refl
 
 load-counts : (l : Load) → first l .state .ppu .«tile_number» ≡ 0
-unfolding loadCall loadedState
-load-counts l =
-    let P : Outcome → Type 0 = λ (o : Outcome). o .state .ppu .«tile_number» ≡ 0 in
-    pick-keeps P (not (prgTaken (length (l .mem .prg)))) refl
-    (pick-keeps P (not (chrTaken (length (l .mem .chr)))) refl
-    (pick-keeps P (not (ramTaken (length (l .mem .ram)) (length (l .mem .ciram)) (length (l .mem .exram)))) refl refl))
+unfolding loadedState
+load-counts l = at-first l (λ (s : State). s .ppu .«tile_number» ≡ 0) refl (λ z m. refl)
 
 -- a detector and a count that are those of w
 is-watched : (w : Watched) (d : Detector) (n : ℕ) → d ≡ w .detector → n ≡ w .tiles → record { detector = d; tiles = n } ≡ w
@@ -143,26 +122,13 @@ count-along l (taken {cs = cs} {s = b} c r t) =
     let d : full .state .irq ≡ watched (historyOf event cs) .detector = sym (ap (λ (x : Board). x .state .irq) (kept-along l r)) ∙ detector l r in
     counts-on full c ∙ ap (λ (w : Watched). tilesBy w (event c)) (is-watched (watched (historyOf event cs)) _ _ d (count-along l r))
 
-answered : (l : Load) (cs : List Made) (b b' : Board) (c : Call) → Reached l cs b → Takes b (call c) b'
-    → let full = fullAfter (first l) cs in says b (call c) ≡ answers (fullCalled c (full .state) (full .mem) .out .answer)
-unfolding says
-answered l cs b b' c r t = ap (λ (x : After). answers (x .out .answer)) (made-on b (fullAfter (first l) cs) c (t .accepted) (kept-along l r))
-
-peeked-along : (l : Load) (cs : List Made) (b : Board) (a : PpuAddr) → Reached l cs b
-    → let full = fullAfter (first l) cs in ppuPeek (b .state) (b .mem) (a .0) ≡ fullPeek (full .state) (full .mem) (a .0)
-peeked-along l cs b a r =
-    let full = fullAfter (first l) cs in
-    let e = kept-along l r in
-    ap (λ (x : Board). ppuPeek (x .state) (x .mem) (a .0)) e ∙ peeked (full .state) (full .mem) (a .0) (sym (ap (λ (x : Board). gateMem (x .state) (x .mem)) e) ∙ open-along l r)
-
 pub along-full : AlongFull
 along-full = record {
   detector = λ l cs b r. detector l r;
   tiles = λ l cs b r. ap (λ (x : Board). x .state .ppu .«tile_number») (kept-along l r) ∙ ap fold (count-along l r);
   board = λ l cs b r. kept-along l r;
   counts-on = λ l cs b r. count-along l r;
-  answer = answered;
-  peek = peeked-along;
+  said = λ l cs b c r n. said-on l r (fullAfter (first l) cs) (kept-along l r) c n;
 }
 
 -- The Rust's 32 bits ------------------------------------------------------------------------------------------------------------------------

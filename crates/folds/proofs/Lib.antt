@@ -1,3 +1,3 @@
 pub mod SameLaws
 pub mod AlongLaws
-pub mod Turning
+pub mod WorkedLaws

@@ -20,20 +20,29 @@ use Rattle.state.specs.declared.State.{State}
 use Rattle.state.specs.Gate.{gateMem}
 use Rattle.cpu.specs.Chosen.{chosen, ppuAfter}
 use Rattle.cpu.specs.Groups.{within}
-use Rattle.cpu.specs.Reads.{cpuAnswer}
+use Rattle.cpu.specs.Reads.{cpuAnswer, audioRead}
 use Rattle.cpu.specs.Writes.{registerWritten, cpuStored}
 use Rattle.ppu.specs.Fetches.{cacheAfter, ppuSeen, splitSeen}
 use Rattle.ppu.specs.Served.{countedServed, patternServed}
 use Rattle.board.specs.declared.Outcome.{Outcome}
-use Rattle.board.specs.Outcomes.{outcome, afterOf}
-use Rattle.board.specs.Whole.{statusTold}
+use Rattle.board.specs.CpuSide.{cpuPeek}
+use Rattle.board.specs.Outcomes.{outcome, After, afterOf}
+use Rattle.board.specs.Whole.{statusTold, mirroringCall, interruptCall}
 use Rattle.board_ppu.specs.Fetch.{countedCall, patternPages, patternCall}
-use Rattle.board_ppu.specs.Peeks.{ppuPeek}
+use Rattle.board_ppu.specs.Peeks.{ppuPeek, spritePeek}
+use Rattle.views.specs.Views.{cpuView, ppuView}
 use Rattle.trace.specs.declared.Call.{Call}
 use Rattle.trace.specs.declared.Call.the-variants.{Clock, CpuRead, CpuWrite, PpuRegister, PpuFetch, Reset, PpuWrite}
+use Rattle.calls.specs.Called.{called}
 use Rattle.lines.specs.Machine.{raisedFull}
-use Rattle.histories.proofs.Behind.{fetched, done, is-done}
-use Rattle.folds.specs.Full.{keptStatus, keptState, keptAfter, fullSeen, fullCounted, fullFetch, fullCalled, fullPeek}
+use Rattle.promises.proofs.Gates.{in-range-of}
+use Rattle.histories.specs.Accepted.{refusal}
+use Rattle.histories.specs.Boards.{Board, Made, says, leaves}
+use Rattle.histories.specs.Boards.Made.{call, peek, ppu-peek, sprite-peek, mirroring-asked, interrupt-asked, cpu-page, ppu-page}
+use Rattle.histories.specs.Boards.Said.{answers}
+use Rattle.histories.specs.Histories.{view}
+use Rattle.histories.proofs.Behind.{fetched, done, unmet, is-done}
+use Rattle.folds.specs.Full.{keptStatus, keptState, keptBoard, fullSeen, fullCounted, fullFetch, fullCalled, fullPeek, fullSays, fullLeaves}
 use Rattle.folds.specs.Same.{SameBoard}
 
 -- The count -------------------------------------------------------------------------------------------------------------------------------
@@ -104,8 +113,11 @@ fetch s m a =
     split (countedAt a) (λ t. rw t (counted-fetch s m a))
     (λ t. rw t (split (ltb a 0x2000) (λ u. rw u (pattern-fetch s m a)) (λ u. rw u)))
 
-pub same-done : (c : Call) (s : State) (m : Mem) → done c (keptState s) m ≡ keptAfter (fullCalled c s m)
-unfolding fullCalled cpuAnswer registerWritten cpuStored
+abbrev keptAfter : After → After
+keptAfter x = afterOf (keptOutcome (x .out)) (x .mem)
+
+same-done : (c : Call) (s : State) (m : Mem) → done c (keptState s) m ≡ keptAfter (fullCalled c s m)
+unfolding cpuAnswer registerWritten cpuStored
 same-done Clock s m = refl
 same-done (CpuRead a) s m = refl
 same-done (CpuWrite a v) s m = rw (write (s .ppu) (s .irq .«in_frame») (a .0))
@@ -114,9 +126,35 @@ same-done (PpuFetch a) s m = ap (λ (o : Outcome). afterOf o m) (fetch s m (a .0
 same-done Reset s m = refl
 same-done (PpuWrite a v) s m = refl
 
-pub peeked : (s : State) (m : Mem) (a : ℕ) → gateMem (keptState s) m ≡ Open → ppuPeek (keptState s) m a ≡ fullPeek s m a
-unfolding ppuPeek fullPeek
+peeked : (s : State) (m : Mem) (a : ℕ) → gateMem (keptState s) m ≡ Open → ppuPeek (keptState s) m a ≡ fullPeek s m a
+unfolding ppuPeek
 peeked s m a h = rw (h, counted (s .regs) (s .vsplit) (s .irq .«in_frame») (s .ppu) (m .exram) a _, pattern (s .regs) (s .vsplit) (s .irq) (s .ppu) (m .exram) (m .chr) a _)
+
+module _ (b : Board) (h : gateMem (keptState (b .state)) (b .mem) ≡ Open) where
+  made : (c : Call) → refusal (view b) (call c) ≡ 0 → called c (keptState (b .state)) (b .mem) ≡ keptAfter (fullCalled c (b .state) (b .mem))
+  made c e = is-done (keptBoard b) c h e ∙ same-done c (b .state) (b .mem)
+
+  said : (c : Made) → refusal (view b) c ≡ 0 → says (keptBoard b) c ≡ fullSays b c
+  unfolding says fullSays refusal cpuAnswer cpuPeek spritePeek mirroringCall interruptCall cpuView ppuView
+  said (call c) e = ap (λ (x : After). answers (x .out .answer)) (made c e)
+  said (peek a) e = rw (h, unmet (audioRead (a .0)) 5 e)
+  said (ppu-peek a) e = ap answers (peeked (b .state) (b .mem) (a .0) h)
+  said (sprite-peek a) e = rw h
+  said mirroring-asked e = rw (in-range-of (keptState (b .state)) (b .mem) h)
+  said interrupt-asked e = rw (in-range-of (keptState (b .state)) (b .mem) h)
+  said (cpu-page a) e = rw h
+  said (ppu-page a) e = rw h
+
+  left-kept : (c : Made) → refusal (view b) c ≡ 0 → leaves (keptBoard b) c ≡ keptBoard (fullLeaves b c)
+  unfolding leaves fullLeaves
+  left-kept (call c) e = ap (λ (x : After). record { state = x .out .state; mem = x .mem }) (made c e)
+  left-kept (peek a) e = refl
+  left-kept (ppu-peek a) e = refl
+  left-kept (sprite-peek a) e = refl
+  left-kept mirroring-asked e = refl
+  left-kept interrupt-asked e = refl
+  left-kept (cpu-page a) e = refl
+  left-kept (ppu-page a) e = refl
 
 pub same-board : SameBoard
 same-board = record {
@@ -128,6 +166,6 @@ same-board = record {
   write = write;
   register = register;
   seen = seen;
-  made = λ c s m h e. is-done (record { state = keptState s; mem = m }) c h e ∙ same-done c s m;
-  peeked = peeked;
+  said = λ b c h e. said b h c e;
+  left = λ b c h e. left-kept b h c e;
 }

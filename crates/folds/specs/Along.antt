@@ -1,19 +1,14 @@
 -- CR 7 over every history of the board. "Demand 2 compares through this fold, as far as the Rust's 32 bits reach."
 -- Assumes nothing.
 use Prim.Native.Nat.{ℕ, _+_, _%_, _<_, _≤_}
-use mathlib.Core.List.{List, _∷_}
+use mathlib.Core.List.{List}
 use mathlib.Core.Path.{_≡_}
-use Rattle.memory.specs.declared.PpuAddr.{PpuAddr}
 use Rattle.scanline.specs.Tiles.{fold, columnOf}
-use Rattle.trace.specs.declared.Call.{Call}
-use Rattle.board_ppu.specs.Peeks.{ppuPeek}
 use Rattle.lines.specs.Machine.{watched}
 use Rattle.lines.specs.Promise.{historyOf}
-use Rattle.histories.specs.Boards.{Board, Made, says}
-use Rattle.histories.specs.Boards.Made.{call}
-use Rattle.histories.specs.Boards.Said.{answers}
-use Rattle.histories.specs.Histories.{Load, first, Takes, Reached, view, event}
-use Rattle.folds.specs.Full.{keptBoard, fullCalled, fullPeek, fullAfter}
+use Rattle.histories.specs.Boards.{Board, Made, says, number}
+use Rattle.histories.specs.Histories.{Load, first, Reached, view, event}
+use Rattle.folds.specs.Full.{keptBoard, fullSays, fullAfter}
 
 pub record AlongFull : Type 0 where
   -- the calls alone tell the detector and the full count (crate `lines`, specs/Machine.antt), and the state's tile count is its fold
@@ -22,11 +17,8 @@ pub record AlongFull : Type 0 where
   -- the state, its page tables and the memory are those that a board leaves which counts on without an end: all of it, and of its count the fold
   pub board : (l : Load) (cs : List Made) (b : Board) → Reached l cs b → b ≡ keptBoard (fullAfter (first l) cs)
   pub counts-on : (l : Load) (cs : List Made) (b : Board) → Reached l cs b → fullAfter (first l) cs .state .ppu .«tile_number» ≡ watched (historyOf event cs) .tiles
-  -- and so is each answer
-  pub answer : (l : Load) (cs : List Made) (b b' : Board) (c : Call) → Reached l cs b → Takes b (call c) b'
-      → let full = fullAfter (first l) cs in says b (call c) ≡ answers (fullCalled c (full .state) (full .mem) .out .answer)
-  pub peek : (l : Load) (cs : List Made) (b : Board) (a : PpuAddr) → Reached l cs b
-      → let full = fullAfter (first l) cs in ppuPeek (b .state) (b .mem) (a .0) ≡ fullPeek (full .state) (full .mem) (a .0)
+  -- and so is all that is said: answers, mirroring, interrupt and page views
+  pub said : (l : Load) (cs : List Made) (b : Board) (c : Made) → Reached l cs b → number (says b c) ≡ 0 → says b c ≡ fullSays (fullAfter (first l) cs) c
 
 -- How far the Rust's 32 bits reach: up to a count of 4,294,967,293 its column, whose sum has 32 bits, is that of the number, and below it so is its count
 -- of one more; at 4,294,967,294 the sum is 0 in 32 bits, and the column another.

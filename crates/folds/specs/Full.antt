@@ -1,36 +1,40 @@
 -- The board with the full tile count, which is 01's: a number without an end. Its state is the board's own, with that number in the count's place, and its
--- definitions are the board's own, handed that number; only a name fetch raises it by one (`raisedFull`) and never turns it over. No code has it.
--- What a call does behind an open gate, where it meets no refusal.
+-- definitions are the board's own, handed that number; only a name fetch raises it by one (`raisedFull`) and never turns it over. No code has it. A call is
+-- told as it is where it is accepted: behind an open gate, and where it meets no refusal.
 -- Assumes nothing.
 use Prim.Native.Nat.{ℕ}
 use mathlib.Core.List.{List, [], _∷_}
-use lib.Dec.{ltb}
-use Rattle.memory.specs.Bytes.{Mem, pageStored}
+use mathlib.Core.Bool.{not, _||_}
+use lib.Dec.{leb, ltb}
+use Rattle.memory.specs.Bytes.{Mem}
 use Rattle.memory.specs.Words.{pick, pageOf}
 use Rattle.answers.specs.declared.Answer.{Answer}
-use Rattle.answers.specs.declared.Answer.the-variants.{Nothing}
+use Rattle.answers.specs.declared.Answer.the-variants.{Nothing, Served}
 use Rattle.registers.specs.declared.Regs.{Regs}
 use Rattle.scanline.specs.Fetches.{countedAt}
-use Rattle.scanline.specs.Steps.{clocked}
+use Rattle.scanline.specs.Steps.{interruptUp}
 use Rattle.scanline.specs.Tiles.{fold, leftAfter}
 use Rattle.split.specs.declared.VSplit.{VSplit}
 use Rattle.state.specs.declared.PpuStatus.{PpuStatus}
 use Rattle.state.specs.declared.State.{State}
-use Rattle.state.specs.With.{withRegs, withIrq, withPpu, withVsplit}
-use Rattle.cpu.specs.Reads.{cpuAnswer, irqRead}
-use Rattle.cpu.specs.Writes.{registerWritten, cpuStored}
+use Rattle.state.specs.With.{withIrq, withPpu, withVsplit}
+use Rattle.cpu.specs.Reads.{cpuAnswer}
+use Rattle.cpu.specs.Writes.{prgWordAt}
 use Rattle.ppu.specs.Fetches.{cacheAfter, splitSeen}
-use Rattle.ppu.specs.Served.{countedServed, patternServed}
+use Rattle.ppu.specs.Served.{countedServed, patternServed, spriteByte}
 use Rattle.board.specs.declared.Outcome.{Outcome}
-use Rattle.board.specs.Outcomes.{outcome, After, afterOf}
-use Rattle.board.specs.Whole.{resetRegs, toldPpu}
+use Rattle.board.specs.declared.Interrupt.the-variants.{Up, Down}
+use Rattle.board.specs.declared.Told.the-variants.{Is}
+use Rattle.board.specs.Outcomes.{outcome, After}
 use Rattle.board_ppu.specs.Fetch.{countedIrq, patternCall}
 use Rattle.board_ppu.specs.Peeks.{chrWordAt, chrAnswer}
+use Rattle.views.specs.Views.{cpuShows, ppuShows}
 use Rattle.trace.specs.declared.Call.{Call}
-use Rattle.trace.specs.declared.Call.the-variants.{Clock, CpuRead, CpuWrite, PpuRegister, PpuFetch, Reset, PpuWrite}
 use Rattle.lines.specs.Machine.{raisedFull}
-use Rattle.histories.specs.Boards.{Board, Made}
+use Rattle.histories.specs.Boards.{Board, Made, Said}
 use Rattle.histories.specs.Boards.Made.{call, peek, ppu-peek, sprite-peek, mirroring-asked, interrupt-asked, cpu-page, ppu-page}
+use Rattle.histories.specs.Boards.Said.{answers, mirrors, interrupts, shows}
+use Rattle.histories.specs.Done.{doneWith}
 
 -- What is kept of it: all, and of the count its fold.
 abbrev pub keptStatus : PpuStatus → PpuStatus
@@ -43,11 +47,8 @@ keptState s = withPpu s (keptStatus (s .ppu))
 abbrev pub keptBoard : Board → Board
 keptBoard b = record { state = keptState (b .state); mem = b .mem }
 
-abbrev pub keptAfter : After → After
-keptAfter x = afterOf (outcome (x .out .answer) (keptState (x .out .state))) (x .mem)
-
 -- 01, "Fetches, runs, breaks": "tile count + 1 for a name fetch to $2FFF; tile cache ..; run and line (third and later equals zero the tile count)". It is
--- `ppuSeen` but for the count that is raised.
+-- `ppuSeen` with `raisedFull` for `raisedBy`.
 unfoldable pub fullSeen : Regs → ℕ → PpuStatus → ℕ → PpuStatus
 fullSeen g m p a =
     record {
@@ -77,22 +78,25 @@ fullFetch s m a =
     (pick (ltb a 0x2000) (patternCall s m a)
     (outcome (chrAnswer (s .«chr_pages») m a) s))
 
--- Every kind of call.
-unfoldable pub fullCalled : Call → State → Mem → After
-fullCalled Clock s m = afterOf (outcome Nothing (withIrq s (clocked (s .irq)))) m
-fullCalled (CpuRead a) s m = afterOf (outcome (cpuAnswer s m (a .0)) (withIrq s (irqRead (s .irq) (a .0)))) m
-fullCalled (CpuWrite a v) s m = afterOf (outcome Nothing (registerWritten s (a .0) v)) (cpuStored s m (a .0) v)
-fullCalled (PpuRegister a v) s m = afterOf (outcome Nothing (toldPpu s (a .0) v)) m
-fullCalled (PpuFetch a) s m = afterOf (fullFetch s m (a .0)) m
-fullCalled Reset s m = afterOf (outcome Nothing (withRegs s (resetRegs (s .regs)))) m
-fullCalled (PpuWrite a v) s m = afterOf (outcome Nothing s) (pageStored m (pageOf (chrWordAt (s .«chr_pages») (a .0))) (a .0) v)
+-- Every kind of call of a trace; a PPU peek; and what each call says.
+abbrev pub fullCalled : Call → State → Mem → After
+fullCalled = doneWith fullFetch
 
--- A PPU peek. The other calls that look only look at no count.
-unfoldable pub fullPeek : State → Mem → ℕ → Answer
+abbrev pub fullPeek : State → Mem → ℕ → Answer
 fullPeek s m a =
     pick (countedAt a) (countedServed (s .regs) (s .vsplit) (s .irq .«in_frame») (s .ppu) (m .exram) a (chrAnswer (s .«chr_pages») m a))
     (pick (ltb a 0x2000) (patternServed (s .regs) (s .vsplit) (s .irq) (s .ppu) (m .exram) (m .chr) a (chrAnswer (s .«chr_pages») m a))
     (chrAnswer (s .«chr_pages») m a))
+
+unfoldable pub fullSays : Board → Made → Said
+fullSays b (call c) = answers (fullCalled c (b .state) (b .mem) .out .answer)
+fullSays b (peek a) = answers (cpuAnswer (b .state) (b .mem) (a .0))
+fullSays b (ppu-peek a) = answers (fullPeek (b .state) (b .mem) (a .0))
+fullSays b (sprite-peek a) = answers (pick (not (b .state .ppu .sprite8x16) || leb 0x2000 (a .0)) Nothing (Served (spriteByte (b .state .regs) (b .state .«chr_banks») (b .mem .chr) (a .0))))
+fullSays b mirroring-asked = mirrors (Is (b .state .screen .mirroring))
+fullSays b interrupt-asked = interrupts (pick (interruptUp (b .state .irq)) Up Down)
+fullSays b (cpu-page a) = let p = pageOf (prgWordAt (b .state .«prg_pages») (a .0)) in shows (cpuShows (b .mem) (p .src) (p .index))
+fullSays b (ppu-page a) = let p = pageOf (chrWordAt (b .state .«chr_pages») (a .0)) in shows (ppuShows (b .mem) (p .src) (p .index))
 
 -- What a call leaves; and what calls leave one after the other, from b on, the newest first.
 unfoldable pub fullLeaves : Board → Made → Board

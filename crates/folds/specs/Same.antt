@@ -5,7 +5,6 @@ use Prim.Native.Nat.{ℕ}
 use mathlib.Core.Bool.{Bool}
 use mathlib.Core.List.{List}
 use mathlib.Core.Path.{_≡_}
-use Rattle.memory.specs.Bytes.{Mem}
 use Rattle.answers.specs.declared.Answer.{Answer}
 use Rattle.registers.specs.declared.Regs.{Regs}
 use Rattle.scanline.specs.declared.Detector.{Detector}
@@ -13,18 +12,15 @@ use Rattle.scanline.specs.Tiles.{fold}
 use Rattle.split.specs.declared.VSplit.{VSplit}
 use Rattle.state.specs.declared.gate.Gate.the-variants.{Open}
 use Rattle.state.specs.declared.PpuStatus.{PpuStatus}
-use Rattle.state.specs.declared.State.{State}
 use Rattle.state.specs.Gate.{gateMem}
 use Rattle.cpu.specs.Chosen.{chosen, ppuAfter}
 use Rattle.ppu.specs.Fetches.{cacheAfter, ppuSeen, splitSeen}
 use Rattle.ppu.specs.Served.{countedServed, patternServed}
 use Rattle.board.specs.Whole.{statusTold}
-use Rattle.board_ppu.specs.Peeks.{ppuPeek}
-use Rattle.trace.specs.declared.Call.{Call}
-use Rattle.calls.specs.Called.{called}
 use Rattle.histories.specs.Accepted.{refusal}
-use Rattle.histories.specs.Boards.Made.{call}
-use Rattle.folds.specs.Full.{keptStatus, keptState, keptAfter, fullSeen, fullCalled, fullPeek}
+use Rattle.histories.specs.Boards.{Board, Made, says, leaves}
+use Rattle.histories.specs.Histories.{view}
+use Rattle.folds.specs.Full.{keptStatus, keptState, keptBoard, fullSeen, fullSays, fullLeaves}
 
 pub record SameBoard : Type 0 where
   -- what looks at the count
@@ -39,6 +35,7 @@ pub record SameBoard : Type 0 where
   pub write : (p : PpuStatus) (framed : Bool) (a : ℕ) → ppuAfter (keptStatus p) framed a ≡ keptStatus (ppuAfter p framed a)
   pub register : (p : PpuStatus) (a v : ℕ) → statusTold (keptStatus p) a v ≡ keptStatus (statusTold p a v)
   pub seen : (g : Regs) (m : ℕ) (p : PpuStatus) (a : ℕ) → ppuSeen g m (keptStatus p) a ≡ keptStatus (fullSeen g m p a)
-  -- and so each call of the board, behind an open gate and where it meets no refusal, on what is kept of a full state: the answer, the state and the bytes
-  pub made : (c : Call) (s : State) (m : Mem) → gateMem (keptState s) m ≡ Open → refusal (s .irq) (call c) ≡ 0 → called c (keptState s) m ≡ keptAfter (fullCalled c s m)
-  pub peeked : (s : State) (m : Mem) (a : ℕ) → gateMem (keptState s) m ≡ Open → ppuPeek (keptState s) m a ≡ fullPeek s m a
+  -- and so each call: on what is kept of a full board, where it is accepted, the board says what the full board says, and leaves what is kept of what that
+  -- leaves
+  pub said : (b : Board) (c : Made) → gateMem (keptState (b .state)) (b .mem) ≡ Open → refusal (view b) c ≡ 0 → says (keptBoard b) c ≡ fullSays b c
+  pub left : (b : Board) (c : Made) → gateMem (keptState (b .state)) (b .mem) ≡ Open → refusal (view b) c ≡ 0 → leaves (keptBoard b) c ≡ keptBoard (fullLeaves b c)

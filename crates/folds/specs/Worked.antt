@@ -2,23 +2,17 @@
 -- kept. It fetches column 2, the split tile, and does not flip the region, since 84 is not under 42: the split serves on, at the address that the full count
 -- gives. A count that started anew from 0 would flip it, one that went back to 41 would have column 1.
 -- Assumes nothing.
-use Prim.Native.Nat.{ℕ, zero, suc}
-use mathlib.Core.Bool.{true, false}
+use Prim.Native.Nat.{ℕ}
+use mathlib.Core.Bool.{true}
 use mathlib.Core.List.{List, [], _∷_, _++_}
 use mathlib.Core.Path.{_≡_}
-use Rattle.registers.specs.declared.Mirroring.the-variants.{Horizontal}
 use Rattle.lines.specs.Machine.{watched}
 use Rattle.lines.specs.Promise.{historyOf}
 use Rattle.histories.specs.Boards.{Board, Made}
 use Rattle.histories.specs.Histories.{Load, first, Reached, event}
-use Rattle.histories.specs.Shorthand.{write, fetch}
+use Rattle.histories.specs.Shorthand.{write, fetch, inTurn}
 use Rattle.histories.specs.Waits.{smallest}
 use Rattle.folds.specs.Full.{fullAfter}
-
--- n fetches of two addresses in turn
-unfoldable pub inTurn : ℕ → ℕ → ℕ → List Made
-inTurn zero a a' = []
-inTurn (suc n) a a' = fetch a ∷ inTurn n a' a
 
 -- The newest first: $5104 = 0, the split enabled on the left side with tile 2, scroll 8; line 0; n name fetches.
 abbrev pub calls : ℕ → List Made

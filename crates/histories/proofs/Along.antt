@@ -5,13 +5,16 @@ use mathlib.Core.Path.{_≡_, refl, sym, _∙_, ap}
 use borrow.Author.Tests.{eqb-true, eq-eqb}
 use lib.ListN.{length}
 use Rattle.memory.proofs.Tests.{pick-keeps, and-left, and-right, and-both}
+use Rattle.registers.specs.declared.Mirroring.{Mirroring}
 use Rattle.scanline.specs.declared.Detector.{Detector}
 use Rattle.scanline.specs.Steps.{detectorAtLoad}
 use Rattle.state.specs.declared.gate.Gate.the-variants.{Open}
+use Rattle.state.specs.declared.Lengths.{Lengths}
+use Rattle.state.specs.declared.State.{State}
 use Rattle.state.specs.Gate.{gateMem}
 use Rattle.state.specs.Lengths.{prgTaken, chrTaken, ramTaken}
 use Rattle.board.specs.declared.Outcome.{Outcome}
-use Rattle.board.specs.Loads.{loadCall, loadedState}
+use Rattle.board.specs.Loads.{zeroState, recorded, loadCall, loadedState}
 use Rattle.trace.specs.declared.Call.the-variants.{Clock, CpuRead, CpuWrite, PpuRegister, PpuFetch, Reset, PpuWrite}
 use Rattle.lines.specs.Machine.{run}
 use Rattle.lines.specs.Promise.{historyOf}
@@ -52,13 +55,18 @@ open-along l r = open-on (gate-stays-open .load (l .mem) (l .as-ram) (l .mirrori
 
 -- The detector, told by the calls alone ------------------------------------------------------------------------------------------------
 
+-- what holds of the zero state and of every state that load makes
+pub at-first : (l : Load) (P : State → Type 0) → P zeroState → ((z : Lengths) (m : Mirroring) → P (loadedState z m)) → P (first l .state)
+unfolding loadCall
+at-first l P zero made =
+    let Q : Outcome → Type 0 = λ (o : Outcome). P (o .state) in
+    pick-keeps Q (not (prgTaken (length (l .mem .prg)))) zero
+    (pick-keeps Q (not (chrTaken (length (l .mem .chr)))) zero
+    (pick-keeps Q (not (ramTaken (length (l .mem .ram)) (length (l .mem .ciram)) (length (l .mem .exram)))) zero (made (recorded (l .mem) (l .as-ram)) (l .mirroring))))
+
 pub starts : (l : Load) → view (first l) ≡ detectorAtLoad
-unfolding loadCall loadedState
-starts l =
-    let P : Outcome → Type 0 = λ (o : Outcome). o .state .irq ≡ detectorAtLoad in
-    pick-keeps P (not (prgTaken (length (l .mem .prg)))) refl
-    (pick-keeps P (not (chrTaken (length (l .mem .chr)))) refl
-    (pick-keeps P (not (ramTaken (length (l .mem .ram)) (length (l .mem .ciram)) (length (l .mem .exram)))) refl refl))
+unfolding loadedState
+starts l = at-first l (λ (s : State). s .irq ≡ detectorAtLoad) refl (λ z m. refl)
 
 pub told-along : (l : Load) {cs : List Made} {b : Board} → Reached l cs b → view b ≡ run (historyOf event cs)
 told-along l r = seen Board Made (first l) Takes view event (starts l) follows r

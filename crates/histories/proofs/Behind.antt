@@ -5,8 +5,8 @@ use mathlib.Core.Bool.{Bool, true, false, not}
 use mathlib.Core.Path.{_≡_, refl, sym, _∙_, ap}
 use native.Mathlib.Omega.{arith}
 use lib.Dec.{ltb}
-use Rattle.memory.specs.Bytes.{Mem, pageStored}
-use Rattle.memory.specs.Words.{pick, pageOf}
+use Rattle.memory.specs.Bytes.{Mem}
+use Rattle.memory.specs.Words.{pick}
 use Rattle.memory.proofs.Tests.{split}
 use Rattle.answers.specs.declared.Answer.{Answer}
 use Rattle.answers.specs.declared.Answer.the-variants.{Nothing}
@@ -19,23 +19,22 @@ use Rattle.answers.proofs.Cases.{refused-or-not, accepted-goes-on, letter-range
 use Rattle.answers.proofs.NumberLaws.{numbered}
 use Rattle.scanline.specs.Fetches.{countedAt}
 use Rattle.scanline.specs.Ranges.{counterRefused}
-use Rattle.scanline.specs.Steps.{clocked, interruptUp}
+use Rattle.scanline.specs.Steps.{interruptUp}
 use Rattle.state.specs.declared.gate.Gate.{Gate}
 use Rattle.state.specs.declared.gate.Gate.the-variants.{Open, Shut}
 use Rattle.state.specs.declared.State.{State}
 use Rattle.state.specs.Gate.{gateMem}
 use Rattle.state.specs.Ranges.{inRange}
-use Rattle.state.specs.With.{withIrq, withRegs}
-use Rattle.cpu.specs.Reads.{cpuAnswer, irqRead, audioRead}
-use Rattle.cpu.specs.Writes.{registerWritten, cpuStored, audioWrite}
+use Rattle.cpu.specs.Reads.{audioRead}
+use Rattle.cpu.specs.Writes.{audioWrite}
 use Rattle.board.specs.declared.Interrupt.{Interrupt}
 use Rattle.board.specs.declared.Interrupt.the-variants.{Up, Down}
 use Rattle.board.specs.declared.Outcome.{Outcome}
 use Rattle.board.specs.CpuSide.{cpuRead, cpuWrite}
 use Rattle.board.specs.Outcomes.{outcome, refused, After, afterOf}
-use Rattle.board.specs.Whole.{resetRegs, resetCall, clockCall, toldPpu, ppuRegisterCall, interruptCall}
+use Rattle.board.specs.Whole.{resetCall, clockCall, ppuRegisterCall, interruptCall}
 use Rattle.board_ppu.specs.Fetch.{countedCall, patternCall, ppuFetch}
-use Rattle.board_ppu.specs.Peeks.{chrWordAt, chrAnswer, ppuPeek, spritePeek, ppuWrite}
+use Rattle.board_ppu.specs.Peeks.{chrAnswer, ppuPeek, spritePeek, ppuWrite}
 use Rattle.trace.specs.declared.Call.{Call}
 use Rattle.trace.specs.declared.Call.the-variants.{Clock, CpuRead, CpuWrite, PpuRegister, PpuFetch, Reset, PpuWrite}
 use Rattle.calls.specs.Called.{called}
@@ -45,6 +44,7 @@ use Rattle.promises.proofs.Promised.{who-is-refused}
 use Rattle.histories.specs.Boards.{Board, Made, says, number, numberIn}
 use Rattle.histories.specs.Boards.Made.{call, peek, ppu-peek, sprite-peek, mirroring-asked, interrupt-asked, cpu-page, ppu-page}
 use Rattle.histories.specs.Boards.Said.{interrupts}
+use Rattle.histories.specs.Done.{doneWith}
 use Rattle.histories.specs.Histories.{view}
 use Rattle.histories.specs.Accepted.{refusal}
 
@@ -54,13 +54,7 @@ fetched s m a =
     pick (countedAt a) (countedCall s m a) (pick (ltb a 0x2000) (patternCall s m a) (outcome (chrAnswer (s .«chr_pages») m a) s))
 
 abbrev pub done : Call → State → Mem → After
-done Clock s m = afterOf (outcome Nothing (withIrq s (clocked (s .irq)))) m
-done (CpuRead a) s m = afterOf (outcome (cpuAnswer s m (a .0)) (withIrq s (irqRead (s .irq) (a .0)))) m
-done (CpuWrite a v) s m = afterOf (outcome Nothing (registerWritten s (a .0) v)) (cpuStored s m (a .0) v)
-done (PpuRegister a v) s m = afterOf (outcome Nothing (toldPpu s (a .0) v)) m
-done (PpuFetch a) s m = afterOf (fetched s m (a .0)) m
-done Reset s m = afterOf (outcome Nothing (withRegs s (resetRegs (s .regs)))) m
-done (PpuWrite a v) s m = afterOf (outcome Nothing s) (pageStored m (pageOf (chrWordAt (s .«chr_pages») (a .0))) (a .0) v)
+done = doneWith fetched
 
 -- A test that picks no number is not met.
 pub unmet : (t : Bool) (n : ℕ) → pick t (suc n) 0 ≡ 0 → t ≡ false

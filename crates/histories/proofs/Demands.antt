@@ -7,7 +7,7 @@ use Rattle.memory.specs.Bytes.{Mem}
 use Rattle.memory.specs.Words.{pick}
 use Rattle.answers.specs.declared.Answer.the-variants.{Register}
 use Rattle.scanline.specs.declared.Detector.{Detector}
-use Rattle.scanline.specs.Steps.{detectorAtLoad, statusOf, interruptUp}
+use Rattle.scanline.specs.Steps.{statusOf, interruptUp}
 use Rattle.state.specs.declared.gate.Gate.the-variants.{Open}
 use Rattle.state.specs.declared.State.{State}
 use Rattle.state.specs.Gate.{gateMem}
@@ -23,13 +23,13 @@ use Rattle.lines.specs.Promise.{historyOf}
 use Rattle.lines.specs.Cases.{toldStatus}
 use Rattle.lines.proofs.Agree.{agrees}
 use Rattle.lines.proofs.Flag.{flag-is}
-use Rattle.lines.proofs.Transfer.{seen, any-machine}
+use Rattle.lines.proofs.Transfer.{any-machine}
 use Rattle.promises.proofs.Gates.{in-range-of}
 use Rattle.promises.proofs.Promised.{who-is-refused}
 use Rattle.histories.specs.Boards.{Board, Made}
 use Rattle.histories.specs.Histories.{Load, first, Takes, Reached, view, event}
 use Rattle.histories.specs.Interrupts.{BoardDemand3, Asked}
-use Rattle.histories.proofs.Along.{open-along, starts}
+use Rattle.histories.proofs.Along.{open-along, starts, told-along}
 use Rattle.histories.proofs.Following.{follows}
 
 pub board-demand-3 : BoardDemand3
@@ -68,7 +68,7 @@ module _ (l : Load) (cs : List Made) (b : Board) (r : Reached l cs b) where
   told-status : cpuRead (b .state) (b .mem) 0x5204 .answer ≡ Register (toldStatus (historyOf event cs))
   told-status =
       reads-status (b .state) (b .mem) (open-along l r)
-      ∙ ap (λ (d : Detector). Register (statusOf d)) (seen Board Made (first l) Takes view event (starts l) follows r)
+      ∙ ap (λ (d : Detector). Register (statusOf d)) (told-along l r)
       ∙ ap Register (status-told (historyOf event cs))
 
   pub asked-at : interruptCall (b .state) ≡ pick (interruptUp (view b)) Up Down

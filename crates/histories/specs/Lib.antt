@@ -1,4 +1,5 @@
 pub mod Boards
+pub mod Done
 pub mod Code
 pub mod Shorthand
 pub mod Histories

@@ -1,5 +1,6 @@
 -- Calls with plain numbers for addresses, as worked cases write them. Assumes nothing.
-use Prim.Native.Nat.{ℕ}
+use Prim.Native.Nat.{ℕ, zero, suc}
+use mathlib.Core.List.{List, [], _∷_}
 use Rattle.trace.specs.declared.Call.the-variants.{Clock, CpuRead, CpuWrite, PpuRegister, PpuFetch}
 use Rattle.trace.specs.Records.{cpu, ppu}
 use Rattle.histories.specs.Boards.{Made}
@@ -20,3 +21,8 @@ fetch a = call (PpuFetch (ppu a))
 
 abbrev pub clock : Made
 clock = call Clock
+
+-- n fetches of two addresses in turn.
+unfoldable pub inTurn : ℕ → ℕ → ℕ → List Made
+inTurn zero a a' = []
+inTurn (suc n) a a' = fetch a ∷ inTurn n a' a

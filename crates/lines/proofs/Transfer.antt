@@ -11,7 +11,7 @@ use Rattle.scanline.specs.declared.Detector.{Detector}
 use Rattle.scanline.specs.Steps.{detectorAtLoad, interruptUp}
 use Rattle.lines.specs.Events.{Event}
 use Rattle.lines.specs.Told.{History, lines, inFrame}
-use Rattle.lines.specs.Machine.{step, run, Watched, atLoad, Taken}
+use Rattle.lines.specs.Machine.{step, run, Watched, atLoad, Taken, watched}
 use Rattle.lines.specs.Promise.{historyOf, Played, Demand3, AnyMachine, DetectorDemand3}
 use Rattle.lines.specs.Promise.Played.{at-load, taken}
 use Rattle.lines.proofs.Agree.{Agrees, agrees}
@@ -27,6 +27,12 @@ history-append event (c ∷ gs) hs = ap (λ h. event c ∷ h) (history-append ev
 number-is : (h : History) → inFrame h ≡ true → run h .scanline + 1 ≡ lines h
 unfolding inFrame
 number-is h f = agrees h .number (leb-true 1 (lines h) f)
+
+-- the count beside it leaves the detector as it runs
+pub run-is : (h : History) → run h ≡ watched h .detector
+unfolding run watched
+run-is [] = refl
+run-is (e ∷ h) = ap (λ d. step d e) (run-is h)
 
 module _ (S C : Type 0) (first : S) (Takes : S → C → S → Type 0) (view : S → Detector) (event : C → Event) (starts : view first ≡ detectorAtLoad) (follows : (s s' : S) (c : C) → Takes s c s' → view s' ≡ step (view s) (event c)) where
   -- the detector is the one that the history runs to
@@ -52,6 +58,6 @@ module _ (S C : Type 0) (first : S) (Takes : S → C → S → Type 0) (view : S
 pub any-machine : AnyMachine
 any-machine = demand-3
 
--- the detector with its tile count
+-- the detector with the full tile count
 pub detector-demand-3 : DetectorDemand3
 detector-demand-3 = any-machine Watched Event atLoad Taken (λ w. w .detector) (λ e. e) refl (λ w w' e t. ap (λ (x : Watched). x .detector) (t .moved))

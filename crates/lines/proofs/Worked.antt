@@ -30,7 +30,7 @@ tests-are-sentences h = (flag-iff h, up-iff h)
 pub reached : (h : History) → allTaken h ≡ true → LedTo h (watched h)
 unfolding allTaken watched
 reached [] p = at-load
-reached (e ∷ h) p = taken e (reached h (and-left (allTaken h) (not (eventRefused (watched h) e)) p)) (record { allowed = not-true (eventRefused (watched h) e) (and-right (allTaken h) (not (eventRefused (watched h) e)) p); moved = refl })
+reached (e ∷ h) p = taken e (reached h (and-left (allTaken h) (not (eventRefused (watched h .detector) e)) p)) (record { allowed = not-true (eventRefused (watched h .detector) e) (and-right (allTaken h) (not (eventRefused (watched h .detector) e)) p); moved = refl })
 
 pub worked : Worked
 unfolding lineRefused counterRefused step eventRefused tilesBy watched allTaken tick again matchesAfter isLine meets seenAt isClock fetches reads writes darkens address value counts vectors clears idle row breaks recent alike lineAt lines inFrame lastWrite hadBit7 isValue hits flagTold calm newLines

@@ -37,13 +37,13 @@ pub record Watched : Type 0 where
 abbrev pub atLoad : Watched
 atLoad = record { detector = detectorAtLoad; tiles = 0 }
 
-unfoldable pub eventRefused : Watched → Event → Bool
-eventRefused w clock = false
-eventRefused w (fetch a) = counterRefused (w .detector) a
-eventRefused w (cpuRead a) = false
-eventRefused w (cpuWrite a v) = false
-eventRefused w (ppuRegister a v) = false
-eventRefused w other = false
+unfoldable pub eventRefused : Detector → Event → Bool
+eventRefused d clock = false
+eventRefused d (fetch a) = counterRefused d a
+eventRefused d (cpuRead a) = false
+eventRefused d (cpuWrite a v) = false
+eventRefused d (ppuRegister a v) = false
+eventRefused d other = false
 
 -- "tile count + 1 for a name fetch to $2FFF"
 abbrev pub raisedFull : ℕ → ℕ → ℕ
@@ -59,7 +59,7 @@ tilesBy w other = w .tiles
 
 -- the call e is taken from w to w': a fetch that refusal 7 is given for is no call of a history
 pub record Taken (w : Watched) (e : Event) (w' : Watched) : Type 0 where
-  pub allowed : eventRefused w e ≡ false
+  pub allowed : eventRefused (w .detector) e ≡ false
   pub moved : w' ≡ record { detector = step (w .detector) e; tiles = tilesBy w e }
 
 -- after the calls of a history, and whether each of them is taken
@@ -69,7 +69,7 @@ watched (e ∷ h) = record { detector = step (watched h .detector) e; tiles = ti
 
 unfoldable pub allTaken : History → Bool
 allTaken [] = true
-allTaken (e ∷ h) = allTaken h && not (eventRefused (watched h) e)
+allTaken (e ∷ h) = allTaken h && not (eventRefused (watched h .detector) e)
 
 -- The Rust stores `regs.irq_pending` beside the flag and the enable: what a call makes of it, p, where the detector before the call is d.
 -- 01, "What must change shape": "`regs.irq_pending`: not stored; shown equal to flag and enable against a definition that stores it."

@@ -57,6 +57,7 @@ DetectorDemand3 = Demand3 Watched Event atLoad Taken (λ w. w .detector) (λ e. 
 abbrev pub LedTo : History → Watched → Type 0
 LedTo h w = Played Watched Event atLoad Taken h w
 
--- accepted calls keep the detector, and what is kept of the tile count, within their ranges, so that the code's own demands are met at every call
+-- accepted calls keep the detector within its ranges, and what is kept of the tile count is within its own, whatever the count: so the code's own demands
+-- are met at every call
 abbrev pub StaysInRange : Type 0
 StaysInRange = (h : History) (w : Watched) → LedTo h w → (detectorOk (w .detector) ≡ true) × (tilesOk (fold (w .tiles)) ≡ true)

@@ -1,11 +1,11 @@
 -- The fold of a full tile count: what `Turns` and `FourLooks` say.
-use Prim.Native.Nat.{ℕ, _+_, _-_, _%_, _<_, _≤_}
+use Prim.Native.Nat.{ℕ, _+_, _-_, _%_, _≤_}
 use mathlib.Core.Path.{_≡_, refl, _∙_}
+use mathlib.Core.Logic.{_↔_}
 use mathlib.Core.Bool.{true}
 use native.Mathlib.Omega.{arith}
 use borrow.Author.Tests.{leb-true, leb-false, eqb-true, eqb-false, le-leb, lt-leb, le-ltb, ne-eqb}
-use lib.Dec.{leb, ltb, eqb}
-use Rattle.memory.specs.Words.{pick}
+use lib.Dec.{leb, eqb}
 use Rattle.memory.proofs.Tests.{split}
 use Rattle.scanline.specs.Tiles.{fold, nextTile, tilesOk, spriteFetch, columnOf, isPrefetched, isFirst}
 use Rattle.scanline.specs.Turns.{Turns, FourLooks}
@@ -35,23 +35,27 @@ next n =
     (λ t. rw t (omega (arith, p, eqb-true (42 + (n - 42) % 42) 83 t)))
     (λ t. rw t (omega (arith, p, eqb-false (42 + (n - 42) % 42) 83 t)))))
 
-least-range : (n : ℕ) → fold n ≤ 83
-least-range n = kept n (λ p e. rw e (omega (arith, p))) (λ p e. rw e (omega arith))
+no-more : (n : ℕ) → fold n ≤ 83
+no-more n = kept n (λ p e. rw e (omega (arith, p))) (λ p e. rw e (omega arith))
 
-whole-range : (t : ℕ) → t ≤ 83 → fold t ≡ t
-whole-range t p = kept t (λ _ e. e) (λ q e. e ∙ omega (arith, p, q))
+each : (t : ℕ) → t ≤ 83 → fold t ≡ t
+each t p = kept t (λ _ e. e) (λ q e. e ∙ omega (arith, p, q))
 
 pub fold-in-range : (n : ℕ) → tilesOk (fold n) ≡ true
 unfolding tilesOk
-fold-in-range n = le-leb (fold n) 83 (least-range n)
+fold-in-range n = le-leb (fold n) 83 (no-more n)
+
+range : (t : ℕ) → (tilesOk t ≡ true) ↔ (fold t ≡ t)
+unfolding tilesOk
+range t = (λ r. each t (leb-true t 83 r), λ e. le-leb t 83 (omega (arith, no-more t, e)))
 
 pub turns : Turns
 unfolding nextTile
-turns = record { exact = exact; beyond = beyond; turn = refl; next = next; least-range = least-range; whole-range = whole-range; in-range = fold-in-range }
+turns = record { exact = exact; beyond = beyond; turn = refl; next = next; no-more = no-more; each = each; range = range }
 
 -- The four looks ---------------------------------------------------------------------------------------------------------------------
 
--- a test at a bound up to 41 does not tell the counts from 42 on apart
+-- tests at these bounds do not tell the counts from 42 on apart
 test-from : (b n : ℕ) → b ≤ 42 → leb b (fold n) ≡ leb b n
 test-from b n q = kept n (λ p e. rw e) (λ p e. rw (e, le-leb b (42 + (n - 42) % 42) (omega (arith, q)), le-leb b n (omega (arith, p, q))))
 

@@ -1,4 +1,4 @@
--- Worked cases at the edges, one list under one statement: what a definition gives, and what 01 or the Rust says.
+-- Worked cases at the edges, one list under one statement: what a definition gives, and what 01, CR 7 or the Rust says.
 -- 01, "Examples at the edges": "In frame, line counter 65,278 takes a line, 65,279 refuses."
 use Prim.Native.Nat.{ℕ}
 use mathlib.Core.Bool.{Bool, true, false}
@@ -8,7 +8,7 @@ use Rattle.memory.specs.Cases.{Case, is, holds, fails, right}
 use Rattle.scanline.specs.declared.Detector.{Detector}
 use Rattle.scanline.specs.Fetches.{countedAt, attributeAt, nameAt}
 use Rattle.scanline.specs.Tiles.{spriteFetch, columnOf, isPrefetched, isFirst, fold, tilesOk, raisedBy, leftAfter}
-use Rattle.scanline.specs.Steps.{matchesAfter, seenAt, clocked, broken, vectorRead, statusRead, targeted, enabledBy, statusOf, interruptUp}
+use Rattle.scanline.specs.Steps.{matchesAfter, withRun, seenAt, clocked, broken, vectorRead, statusRead, targeted, enabledBy, statusOf, interruptUp}
 use Rattle.scanline.specs.Ranges.{detectorOk, counterRefused}
 
 -- after m fetches at $2000 equal to the one before them, with an idle count of i, in frame or not, at line n, with the interrupt's flag or not; the interrupt is disabled and the target is 5
@@ -81,6 +81,8 @@ refusals =
     ∷ fails (counterRefused (at 2 0 true 65279 false) 0x2000)
     -- out of frame the line counter is what the last frame left
     ∷ fails (counterRefused (at 1 0 false 65279 false) 0x2000)
+    -- a fetch below $2000 counts for nothing, whatever the state handed in says was before it
+    ∷ fails (counterRefused (withRun (at 1 0 true 65279 false) 0x1FFF 1 true 65279 false) 0x1FFF)
     ∷ holds (tilesOk 83)
     ∷ fails (tilesOk 84)
     ∷ holds (detectorOk (at 0 2 true 65279 false))

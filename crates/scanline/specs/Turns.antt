@@ -2,6 +2,7 @@
 -- Proved in proofs/FoldLaws.antt, and pinned by the contract of `promises`. That the board is then the same: crate `folds`.
 use Prim.Native.Nat.{ℕ, _+_, _-_, _%_, _≤_}
 use mathlib.Core.Path.{_≡_}
+use mathlib.Core.Logic.{_↔_}
 use mathlib.Core.Bool.{true}
 use Rattle.scanline.specs.Tiles.{fold, nextTile, tilesOk, spriteFetch, columnOf, isPrefetched, isFirst}
 
@@ -13,10 +14,10 @@ pub record Turns : Type 0 where
   -- "so 83 is followed by 42", and any other by one more: what is kept of one more is the next of what is kept
   pub turn : nextTile 83 ≡ 42
   pub next : (n : ℕ) → fold (n + 1) ≡ nextTile (fold n)
-  -- "The state's range for it becomes 0 to 83": no more than these are kept, and each of them is
-  pub least-range : (n : ℕ) → fold n ≤ 83
-  pub whole-range : (t : ℕ) → t ≤ 83 → fold t ≡ t
-  pub in-range : (n : ℕ) → tilesOk (fold n) ≡ true
+  -- "The state's range for it becomes 0 to 83": no other number is kept, and each of these is; a count is in range exactly when it is what is kept of itself
+  pub no-more : (n : ℕ) → fold n ≤ 83
+  pub each : (t : ℕ) → t ≤ 83 → fold t ≡ t
+  pub range : (t : ℕ) → (tilesOk t ≡ true) ↔ (fold t ≡ t)
 
 -- "Show that sprite fetch, column, the test for 40 and the test for 42 answer as the full count did."
 pub record FourLooks : Type 0 where

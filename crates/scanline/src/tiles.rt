@@ -60,7 +60,7 @@ pub fn tiles_ok(tiles: u32) -> bool
     tiles <= 83
 }
 
-// One more. From 42 on the four looks tell a count only from those of another column, so the counts 42 to 83 go round.
+// One more. From 42 on the four looks tell two counts apart only by their column, so the counts 42 to 83 go round.
 fn next_tile(tiles: u32) -> u32
     requires { ⌜ tilesOk tiles ≡ true ⌝ }
     ensures { λ r. ⌜ r ≡ nextTile tiles ⌝ }
@@ -76,9 +76,8 @@ pub fn tiles_raised(tiles: u32, addr: u16) -> u32
     requires { ⌜ tilesOk tiles ≡ true ⌝ }
     ensures { λ r. ⌜ r ≡ raisedBy tiles addr ⌝ }
 {
-    let more = next_tile(tiles);
     if name_fetch(addr) {
-        return more;
+        return next_tile(tiles);
     }
     tiles
 }

@@ -1,6 +1,7 @@
 -- 01, "STATE ranges": "recorded lengths pass load; idle count 0-2; fill attribute and mode numbers 0-3; protect bytes 0-3; split tile 0-31; tile
 -- address 0-959; tile cache 0-1,023; `chr_hi` one of 0, 256, 512, 768; tile count and line counter within 7's limits; each page blank or a
--- whole page of a buffer its table may show." Each group's ranges stand with the crate that has the group.
+-- whole page of a buffer its table may show." CR 7, of the tile count: "The state's range for it becomes 0 to 83." Each group's ranges stand with the crate
+-- that has the group.
 use mathlib.Core.Bool.{Bool}
 use mathlib.Core.List.{List, [], _∷_}
 use lib.Dec.{leb}

@@ -3,7 +3,7 @@
 
 use crate::{
     pair::{Buffers, Pair},
-    replays,
+    replays, tiles,
 };
 use mmc5::{Answer, State, Stopped};
 use oracle::{
@@ -63,7 +63,8 @@ fn broken(random: &mut Random, s: &mut State) -> (&'static str, u8) {
             ("line counter", 5)
         }
         11 => {
-            s.wide[5] = random.pick(&[84, 125, 4_294_967_293, u32::MAX]);
+            let above = 84 + (random.next() % (u64::from(u32::MAX) - 83)) as u32;
+            s.wide[5] = random.pick(&[84, tiles::REACH, u32::MAX, above]);
             ("tile count", 5)
         }
         12 => {

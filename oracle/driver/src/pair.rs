@@ -5,7 +5,6 @@ use mmc5::{Answer as Told, Memory, State};
 use oracle::{
     board::{Answer, Board},
     cartridge::{BUFFERS, Cartridge, MIRRORINGS, fill_byte},
-    generate::random::Random,
     memory::Page,
     refusal::Refusal,
     show,
@@ -86,16 +85,14 @@ pub fn load(c: Cartridge) -> Result<Option<Pair>, String> {
 }
 
 impl Pair {
-    /// Sets a tile count on both boards, a small one or one near the end of the Rust's reach: the port is given its fold.
-    pub fn with_tiles(&mut self, random: &mut Random) {
-        let tiles = if random.once_in(3) { tiles::REACH - random.below(100) as u32 } else { random.below(201) as u32 };
-        self.state.wide[5] = tiles::fold(tiles);
+    /// Sets the Rust's tile count; the port is given its fold.
+    pub fn set_tiles(&mut self, tiles: u32) {
         self.rust.exrom.ppu_status.tile_number = tiles;
+        self.state.wide[5] = tiles::fold(tiles);
     }
 
-    /// Sets both boards near the line counter's limit: refusal 7 is then some fetches away.
-    pub fn near_limit(&mut self, random: &mut Random) {
-        let line = 65_279 - random.below(6) as u16;
+    /// Sets both boards in frame at a line.
+    pub fn set_line(&mut self, line: u16) {
         self.state.halves[3] = line;
         self.rust.exrom.ppu_status.scanline = line;
         self.state.bytes[8] = 1;

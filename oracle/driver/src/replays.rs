@@ -37,7 +37,7 @@ fn log_bytes(answer: Answer, interrupt: bool) -> [u8; 2] {
 fn play(pair: &mut Pair, trace: &[u8], room: usize, seen: &mut Seen) -> Result<(), String> {
     let mut wanted = Vec::new();
     let mut kinds = Vec::new();
-    let ending = replay::play_after(&mut pair.rust, trace, tiles::within_reach, |board, _, record, answer| {
+    let ending = replay::play_with(&mut pair.rust, trace, tiles::within_reach, |board, _, record, answer| {
         wanted.extend(log_bytes(in_words(Ok(answer)), board.interrupt()));
         kinds.push(record);
     });

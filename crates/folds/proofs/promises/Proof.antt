@@ -1,7 +1,7 @@
 -- `promises` holds, by the laws of its parts.
 use Rattle.folds.proofs.SameLaws.{same-board}
 use Rattle.folds.proofs.AlongLaws.{along-full, rust-reaches}
-use Rattle.folds.proofs.Turning.{worked}
+use Rattle.folds.proofs.WorkedLaws.{worked}
 use Rattle.folds.proofs.promises.Statement.{statement}
 use Rattle.folds.proofs.promises.Tie as tie
 

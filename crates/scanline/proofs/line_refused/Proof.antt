@@ -1,4 +1,4 @@
--- The line counter's part of refusal 7, by `line-over`: the code tests the counter before the line, the definition the number after it.
+-- The line counter would pass its limit, by `line-over`: the code tests the counter before the line, the definition the number after it.
 use borrow.Author.Needs.{needs}
 use Rattle.scanline.proofs.StepLaws.{line-over}
 use Rattle.scanline.proofs.line_refused.Statement.{statement}

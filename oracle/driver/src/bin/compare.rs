@@ -1,6 +1,6 @@
 //! compare [RECORDS] [SEED]: both boards are given the same calls. Its last line is `compared N records, D differences`.
 
-use driver::{breaks, cartridges, pair, replays};
+use driver::{breaks, cartridges, pair, replays, tiles};
 use oracle::{
     generate::{self, random::Random},
     trace::Reader,
@@ -43,10 +43,14 @@ fn trace(random: &mut Random, seen: &mut Seen) -> Result<(), String> {
         return Err("a good cartridge was refused".into());
     };
     if random.once_in(2) {
-        pair.with_tiles(random);
+        pair.set_tiles(if random.once_in(3) { tiles::REACH - random.below(100) as u32 } else { random.below(201) as u32 });
+        if random.once_in(2) {
+            pair.set_line(random.below(240) as u16);
+        }
     }
+    // Near the line counter's limit refusal 7 is some fetches away.
     if random.once_in(4) {
-        pair.near_limit(random);
+        pair.set_line(65_279 - random.below(6) as u16);
     }
     let kind = random.pick(&["play", "play", "wild", "wild", "damaged"]);
     let records = 1 + random.below(3_000);
@@ -121,6 +125,19 @@ fn main() {
             println!("{told} s: {} records, {} differences", seen.records, seen.differences);
         }
     }
+    let mut from_counts = 0;
+    for start in tiles::starts() {
+        match tiles::compare(start) {
+            Ok(calls) => from_counts += calls,
+            Err(why) => {
+                if seen.differences == 0 {
+                    println!("the first difference, from tile count {start}");
+                }
+                seen.differ(&format!("from tile count {start}"), why);
+            }
+        }
+    }
+    println!("from {} tile counts: {from_counts} calls", tiles::starts().count());
     println!(
         "seed {seed}: {} traces, {} calls, {} refused calls, {} refused loads, {} whole comparisons, {} broken states, {} s",
         seen.traces,

@@ -5,7 +5,7 @@ use Rattle.scanline.proofs.tiles.tiles_raised.Statement.{statement}
 use Rattle.scanline.proofs.tiles.tiles_raised.Tie as tie
 
 returns : tie.Need-returns
-returns c = rw (sym (c .before .name-fetch .ensures) ∙ c .if1 .taken) (c .before .before .next-tile .ensures)
+returns c = rw (sym (c .before .before .name-fetch .ensures) ∙ c .before .if1 .taken) (c .next-tile .ensures)
 
 returns-2 : tie.Need-returns-2
 returns-2 c = rw (sym (c .before .name-fetch .ensures) ∙ c .if1 .left)

@@ -3,7 +3,6 @@
 use Prim.Native.Nat.{ℕ}
 use mathlib.Core.Bool.{Bool, true, false}
 use mathlib.Core.Path.{_≡_, refl, _∙_, ap}
-use Rattle.memory.specs.Words.{pageOf}
 use Rattle.registers.specs.declared.Mirroring.the-variants.{Horizontal}
 use Rattle.registers.specs.Registers.{written}
 use Rattle.scanline.specs.Ranges.{lineRefused, counterRefused}
@@ -20,11 +19,12 @@ use Rattle.lines.specs.Promise.{historyOf}
 use Rattle.histories.specs.Accepted.{refusal, acceptable}
 use Rattle.histories.specs.Boards.{Board}
 use Rattle.histories.specs.Histories.{Load, first, event}
+use Rattle.histories.specs.Shorthand.{inTurn}
 use Rattle.histories.specs.Waits.{smallest}
 use Rattle.histories.proofs.Along.{are-reached}
 use Rattle.histories.proofs.Waited.{waits}
-use Rattle.folds.specs.Full.{fullSeen, fullCounted, fullCalled, fullLeaves, fullAfter}
-use Rattle.folds.specs.Worked.{inTurn, calls, Worked}
+use Rattle.folds.specs.Full.{fullSeen, fullCounted, fullLeaves, fullAfter}
+use Rattle.folds.specs.Worked.{calls, Worked}
 use Rattle.folds.proofs.AlongLaws.{along-full}
 
 take-them : acceptable (calls 84) ≡ true
@@ -42,7 +42,7 @@ abbrev splitOf : State → Bool × ℕ
 splitOf s = (s .vsplit .«in_region», s .vsplit .«tile_addr»)
 
 full-split : splitOf (fullAfter (first loaded) (calls 84) .state) ≡ (true, 34)
-unfolding loaded loadCall loadedState fullAfter fullLeaves fullCalled fullCounted fullSeen registerWritten written splitAfter irqAfter splitSeen columnOf isPrefetched isFirst sideAt regionAt splitAddress afterName again matchesAfter isLine meets seenAt inTurn
+unfolding loaded loadCall loadedState fullAfter fullLeaves fullCounted fullSeen registerWritten written splitAfter irqAfter splitSeen columnOf isPrefetched isFirst sideAt regionAt splitAddress afterName again matchesAfter isLine meets seenAt inTurn
 full-split = refl
 
 pub worked : Worked
