@@ -2,6 +2,7 @@
 use crate::lengths;
 use answers::Answer;
 use board::Outcome;
+use board::loads::Settings;
 use memory::CpuAddr;
 use memory::PpuAddr;
 use registers::Mirroring;
@@ -16,6 +17,14 @@ pub const PEEK: u8 = 2;
 
 pub const FETCH: u8 = 3;
 
+// CHR-ROM, mirrored horizontally.
+pub fn plain() -> Settings {
+    Settings {
+        chr_writable: false,
+        mirroring: Mirroring::Horizontal,
+    }
+}
+
 fn call(
     kind: u8,
     s: State,
@@ -27,7 +36,7 @@ fn call(
     exram: &[u8],
 ) -> Outcome {
     if kind == LOAD {
-        return board::loads::load(prg, chr, ram, ciram, exram, false, Mirroring::Horizontal);
+        return board::loads::load(prg, chr, ram, ciram, exram, plain());
     }
     if kind == READ {
         return board::cpu_side::cpu_read(s, prg, chr, ram, ciram, exram, CpuAddr(addr));

@@ -3,7 +3,6 @@
 ghost use Prim.Native.Nat.{_≤_};
 ghost use lib.ListN.{length};
 use answers::Answer;
-use registers::Mirroring;
 use say::say;
 use say::say_number;
 use state::State;
@@ -97,15 +96,7 @@ fn audio_registers(s: State) {
 // A load over buffers of the recorded lengths. It takes no state; a refused one gives the state to hand in.
 fn loaded() -> State {
     let none = [0u8; 1];
-    let refused = board::loads::load(
-        &none,
-        &none,
-        &none,
-        &none,
-        &none,
-        false,
-        Mirroring::Horizontal,
-    );
+    let refused = board::loads::load(&none, &none, &none, &none, &none, lent::plain());
     let load = lent::by_number(lent::LOAD, refused.state, 0, lengths::AS_RECORDED);
     load.state
 }

@@ -7,6 +7,7 @@ ghost use Rattle.banks.specs.Chr.{windowPages, windowRegister, chrNumber
 use memory::PageWord;
 use memory::Src;
 use registers::Regs;
+use state::Lengths;
 
 // How many pages a window of the mode has: 8k, 4k, 2k, 1k.
 fn window_pages(mode: u8) -> u32
@@ -97,20 +98,19 @@ fn if_background(background: bool) -> usize
 
 // The table with the eight pattern pages mapped.
 pub fn map_chr(
-    chr_len: u32,
-    chr_writable: bool,
+    lengths: Lengths,
     regs: Regs,
     banks: [u8; 16],
     background: bool,
     pages: [PageWord; 16],
 ) -> [PageWord; 16]
-    ensures { λ r. ⌜ r ≡ chrMapped «chr_len» «chr_writable» regs banks background pages ⌝ }
+    ensures { λ r. ⌜ r ≡ chrMapped (lengths .chr) (lengths .«chr_writable») regs banks background pages ⌝ }
 {
     let mut next = pages;
     let mut k: usize = 0;
     while k < 8 {
         let number = chr_number(regs, banks, background, k);
-        let word = memory::windows::chr_window(Src::Chr, chr_len, number, chr_writable);
+        let word = memory::windows::chr_window(Src::Chr, lengths.chr, number, lengths.chr_writable);
         next[k] = word;
         k += 1;
     }

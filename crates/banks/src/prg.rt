@@ -5,6 +5,7 @@ ghost use Rattle.banks.specs.Prg.{pairFirst, rom, prgValues, prgShown, p
 use memory::PageWord;
 use memory::Src;
 use registers::Regs;
+use state::Lengths;
 
 // Bit 0 cleared.
 fn first_of(value: u8) -> u8
@@ -66,14 +67,13 @@ fn shown(prg_len: u32, ram_len: u32, unlocked: bool, value: u8) -> [PageWord; 8]
 
 // The table with the five windows mapped.
 pub fn map_prg(
-    prg_len: u32,
-    ram_len: u32,
+    lengths: Lengths,
     regs: Regs,
     banks: [u8; 5],
     pages: [PageWord; 64],
 ) -> [PageWord; 64]
-    requires { ⌜ («prg_len» % 1024 ≡ 0) × («ram_len» % 1024 ≡ 0) ⌝ }
-    ensures { λ r. ⌜ r ≡ prgMapped «prg_len» «ram_len» regs banks pages ⌝ }
+    requires { ⌜ (lengths .prg % 1024 ≡ 0) × (lengths .ram % 1024 ≡ 0) ⌝ }
+    ensures { λ r. ⌜ r ≡ prgMapped (lengths .prg) (lengths .ram) regs banks pages ⌝ }
 {
     let unlocked = registers::unlocked(regs);
     let mode = regs.prg_mode;
@@ -82,7 +82,7 @@ pub fn map_prg(
     let mut i: usize = 0;
     while i < 5 {
         let value = shows[i];
-        let words = shown(prg_len, ram_len, unlocked, value);
+        let words = shown(lengths.prg, lengths.ram, unlocked, value);
         let at = 24 + 8 * i;
         next[at] = words[0];
         next[at + 1] = words[1];

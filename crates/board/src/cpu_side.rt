@@ -1,6 +1,10 @@
 // CPU read, peek and write.
 ghost use mathlib.Core.Path.{_≡_};
+ghost use mathlib.Core.Bool.{true};
 ghost use Rattle.memory.specs.Bytes.{memOf};
+ghost use Rattle.state.specs.Lengths.{lengthsOk};
+ghost use Rattle.cpu.specs.Reads.{cpuAnswer};
+ghost use Rattle.cpu.specs.Writes.{registerWritten};
 ghost use Rattle.board.specs.Outcomes.{afterOf};
 ghost use Rattle.board.specs.CpuSide.{cpuRead, cpuPeek, cpuWrite};
 use crate::Outcome;
@@ -8,8 +12,104 @@ use crate::refuse;
 use answers::Answer;
 use answers::Refusal;
 use memory::CpuAddr;
+use state::Screen;
 use state::State;
 use state::gate::Gate;
+use steps::register_writes;
+
+// What a read or a peek answers.
+fn answer_at(
+    s: State,
+    prg: &[u8],
+    chr: &[u8],
+    ram: &[u8],
+    ciram: &[u8],
+    exram: &[u8],
+    addr: u16,
+) -> Answer
+    ensures { λ r. ⌜ r ≡ cpuAnswer s (memOf (now (prg .entry)) (now (chr .entry)) (now (ram .entry)) (now (ciram .entry)) (now (exram .entry))) addr ⌝ }
+{
+    let pages = s.prg_pages;
+    let word = cpu::writes::prg_word_at(pages, addr);
+    let prg_banks = s.prg_banks;
+    let chr_banks = s.chr_banks;
+    steps::cpu_side::read(
+        s.regs,
+        s.vsplit,
+        s.irq,
+        prg_banks,
+        chr_banks,
+        word,
+        prg,
+        chr,
+        ram,
+        ciram,
+        exram,
+        addr,
+    )
+}
+
+// The state after a write: the registers lie from $5100 to $5206.
+fn register_written(s: State, addr: u16, val: u8) -> State
+    requires { ⌜ lengthsOk (s .lengths) ≡ true ⌝ }
+    ensures { λ r. ⌜ r ≡ registerWritten s addr val ⌝ }
+{
+    let mut t = s;
+    if !cpu::groups::is_within(0x5100, 0x5206, addr) {
+        return t;
+    }
+    let lengths = s.lengths;
+    if cpu::writes::maps_prg(addr) {
+        let banks = s.prg_banks;
+        let pages = s.prg_pages;
+        let w = register_writes::write_prg(lengths, s.regs, banks, pages, addr, val);
+        let regs = w.regs;
+        let prg_banks = w.banks;
+        let prg_pages = w.pages;
+        t.regs = regs;
+        t.prg_banks = prg_banks;
+        t.prg_pages = prg_pages;
+        return t;
+    }
+    let old_screen = s.screen;
+    let mirroring = old_screen.mirroring;
+    let banks = s.chr_banks;
+    let pages = s.chr_pages;
+    let exram = s.prg_pages[23];
+    let w = register_writes::write_other(
+        lengths,
+        s.regs,
+        s.vsplit,
+        s.irq,
+        s.ppu,
+        mirroring,
+        banks,
+        pages,
+        exram,
+        addr,
+        val,
+    );
+    let regs = w.regs;
+    let vsplit = w.vsplit;
+    let irq = w.irq;
+    let ppu = w.ppu;
+    let mirrored = w.mirroring;
+    let screen = Screen {
+        mirroring: mirrored,
+    };
+    let chr_banks = w.banks;
+    let chr_pages = w.pages;
+    let at_5c00 = w.exram;
+    t.regs = regs;
+    t.vsplit = vsplit;
+    t.irq = irq;
+    t.ppu = ppu;
+    t.screen = screen;
+    t.chr_banks = chr_banks;
+    t.chr_pages = chr_pages;
+    t.prg_pages[23] = at_5c00;
+    t
+}
 
 pub fn cpu_read(
     s: State,
@@ -30,7 +130,7 @@ pub fn cpu_read(
     if cpu::reads::audio_read(a) {
         return refuse(s, Refusal::Audio);
     }
-    let answer = cpu::reads::answer_at(s, prg, chr, ram, ciram, exram, a);
+    let answer = answer_at(s, prg, chr, ram, ciram, exram, a);
     let irq = cpu::reads::irq_read(s.irq, a);
     let mut t = s;
     t.irq = irq;
@@ -56,7 +156,7 @@ pub fn cpu_peek(
     if cpu::reads::audio_read(a) {
         return Answer::Refused(Refusal::Audio);
     }
-    cpu::reads::answer_at(s, prg, chr, ram, ciram, exram, a)
+    answer_at(s, prg, chr, ram, ciram, exram, a)
 }
 
 pub fn cpu_write(
@@ -80,9 +180,22 @@ pub fn cpu_write(
     if cpu::writes::audio_write(a) {
         return refuse(s, Refusal::Audio);
     }
-    let t = cpu::writes::cpu_write(s, chr, ram, ciram, exram, a, val);
+    let pages = s.prg_pages;
+    let word = cpu::writes::prg_word_at(pages, a);
+    // First the bytes: no register maps the page that registers are written at.
+    steps::cpu_side::store(
+        chr,
+        ram,
+        ciram,
+        exram,
+        s.regs.exram_mode,
+        s.ppu.rendering,
+        word,
+        a,
+        val,
+    );
     Outcome {
         answer: Answer::Nothing,
-        state: t,
+        state: register_written(s, a, val),
     }
 }

@@ -15,6 +15,12 @@ use state::PpuStatus;
 use state::Screen;
 use state::State;
 
+// What the cartridge's header says: whether CHR is RAM, and the mirroring.
+pub struct Settings {
+    pub chr_writable: bool,
+    pub mirroring: Mirroring,
+}
+
 // The state of a refused load: every number 0, every choice off, every page blank.
 fn zero() -> State
     ensures { λ r. ⌜ r ≡ zeroState ⌝ }
@@ -73,16 +79,9 @@ fn loaded(lengths: Lengths, mirroring: Mirroring) -> State
     let prg_banks = [0, 0, 0, 0, 128 + last as u8];
     let chr_banks = [0u8; 16];
     let prg_blank = [PageWord(0); 64];
-    let prg_pages = banks::prg::map_prg(lengths.prg, lengths.ram, regs, prg_banks, prg_blank);
+    let prg_pages = banks::prg::map_prg(lengths, regs, prg_banks, prg_blank);
     let chr_blank = [PageWord(0); 16];
-    let patterns = banks::chr::map_chr(
-        lengths.chr,
-        lengths.chr_writable,
-        regs,
-        chr_banks,
-        false,
-        chr_blank,
-    );
+    let patterns = banks::chr::map_chr(lengths, regs, chr_banks, false, chr_blank);
     let chr_pages = banks::names::map_names(0, false, patterns);
     State {
         lengths,
@@ -120,10 +119,9 @@ pub fn load(
     ram: &[u8],
     ciram: &[u8],
     exram: &[u8],
-    chr_writable: bool,
-    mirroring: Mirroring,
+    settings: Settings,
 ) -> Outcome
-    ensures { λ r. ⌜ r ≡ loadCall (memOf (now (prg .entry)) (now (chr .entry)) (now (ram .entry)) (now (ciram .entry)) (now (exram .entry))) «chr_writable» mirroring ⌝ }
+    ensures { λ r. ⌜ r ≡ loadCall (memOf (now (prg .entry)) (now (chr .entry)) (now (ram .entry)) (now (ciram .entry)) (now (exram .entry))) (settings .«chr_writable») (settings .mirroring) ⌝ }
 {
     if !state::sizes::prg_taken(prg.len()) {
         return refuse_load(Refusal::Prg);
@@ -141,8 +139,9 @@ pub fn load(
         ram: ram.len() as u32,
         ciram: ciram.len() as u32,
         exram: exram.len() as u32,
-        chr_writable,
+        chr_writable: settings.chr_writable,
     };
+    let mirroring = settings.mirroring;
     Outcome {
         answer: Answer::Nothing,
         state: loaded(lengths, mirroring),

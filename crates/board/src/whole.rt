@@ -17,9 +17,9 @@ pub fn reset(s: State) -> Outcome
     if !ok {
         return refuse(s, Refusal::State);
     }
+    let regs = registers::reset(s.regs);
     let mut t = s;
-    t.regs.prg_mode = 3;
-    t.regs.chr_mode = 3;
+    t.regs = regs;
     Outcome {
         answer: Answer::Nothing,
         state: t,

@@ -1,1 +1,2 @@
 pub mod SpriteLaws
+pub mod Made

@@ -1,6 +1,6 @@
 -- A PPU fetch. 01, "Fetches, runs, breaks" and modules 5 to 8.
 use Prim.Native.Nat.{ℕ}
-use mathlib.Core.Bool.{Bool, _&&_, _||_, not}
+use mathlib.Core.Bool.{Bool}
 use mathlib.Core.List.{List}
 use lib.Dec.{ltb}
 use Rattle.memory.specs.declared.PageWord.{PageWord}
@@ -8,7 +8,7 @@ use Rattle.memory.specs.Bytes.{Mem}
 use Rattle.memory.specs.Words.{pick}
 use Rattle.answers.specs.declared.Refusal.the-variants.{Counter}
 use Rattle.banks.specs.Chr.{chrMapped}
-use Rattle.cpu.specs.Chosen.{chosen}
+use Rattle.cpu.specs.Chosen.{chosen, setChanged}
 use Rattle.ppu.specs.Fetches.{ppuSeen, splitSeen}
 use Rattle.ppu.specs.Served.{countedServed, patternServed}
 use Rattle.scanline.specs.declared.Detector.{Detector}
@@ -43,9 +43,6 @@ countedCall s m a =
     outcome (countedServed (s .regs) (countedSplit s a) (countedIrq s a .«in_frame») (countedPpu s a) (m .exram) a (chrAnswer (s .«chr_pages») m a)) (countedState s a)
 
 -- Module 5: "A pattern fetch chooses first, mapping only on a change".
-abbrev pub setChanged : Bool → Bool → Bool
-setChanged before after = (before && not after) || (not before && after)
-
 unfoldable pub patternPages : State → Bool → List PageWord
 patternPages s bg =
     pick (setChanged (s .ppu .«bg_set») bg) (chrMapped (s .lengths .chr) (s .lengths .«chr_writable») (s .regs) (s .«chr_banks») bg (s .«chr_pages»)) (s .«chr_pages»)

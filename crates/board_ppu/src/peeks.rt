@@ -7,6 +7,7 @@ use answers::Answer;
 use memory::PpuAddr;
 use state::State;
 use state::gate::Gate;
+use steps::ppu_side;
 
 pub fn ppu_peek(
     s: State,
@@ -25,14 +26,35 @@ pub fn ppu_peek(
     }
     let a = addr.0;
     let table = s.chr_pages;
-    let page = pages::page_at(table, prg, chr, ram, ciram, exram, a);
+    let word = pages::chr_word_at(table, a);
     if scanline::tiles::counted(a) {
-        return ppu::served::counted_served(s.regs, s.vsplit, s.irq.in_frame, s.ppu, exram, a, page);
+        return ppu_side::counted_answer(
+            s.regs,
+            s.vsplit,
+            s.irq.in_frame,
+            s.ppu,
+            word,
+            prg,
+            chr,
+            ram,
+            ciram,
+            exram,
+            a,
+        );
     }
-    if a < 0x2000 {
-        return ppu::served::pattern_served(s.regs, s.vsplit, s.irq, s.ppu, exram, chr, a, page);
-    }
-    page
+    ppu_side::other_answer(
+        s.regs,
+        s.vsplit,
+        s.irq,
+        s.ppu,
+        word,
+        prg,
+        chr,
+        ram,
+        ciram,
+        exram,
+        a,
+    )
 }
 
 pub fn sprite_peek(

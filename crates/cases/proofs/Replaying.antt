@@ -20,11 +20,12 @@ use Rattle.cpu.specs.Chosen.{chosen, ppuAfter}
 use Rattle.cpu.specs.Groups.{splitAfter, irqAfter, prgBanksAfter, chrBanksAfter}
 use Rattle.cpu.specs.Reads.{pageAnswer, registerRead, irqRead, cpuAnswer}
 use Rattle.cpu.specs.Writes.{prgPagesAfter, chrPagesAfter, registerWritten, latched, cpuStored}
+use Rattle.cpu.specs.PpuRegisters.{statusAfter, detectorAfter}
 use Rattle.ppu.specs.Fetches.{cacheAfter, ppuSeen, splitSeen}
 use Rattle.ppu.specs.Served.{countedServed}
 use Rattle.board.specs.Loads.{loadedState, loadCall}
 use Rattle.board.specs.CpuSide.{cpuRead, cpuWrite}
-use Rattle.board.specs.Whole.{clockCall, statusTold, detectorTold, ppuRegisterCall}
+use Rattle.board.specs.Whole.{clockCall, ppuRegisterCall}
 use Rattle.board_ppu.specs.Fetch.{countedCall, ppuFetch}
 use Rattle.board_ppu.specs.Peeks.{chrAnswer}
 use Rattle.trace.specs.Cartridge.{countedPages, cartridge}
@@ -35,7 +36,7 @@ use Rattle.player.specs.Replay.{playedFrom, replayed}
 use Rattle.cases.specs.WorkedReplay.{WorkedReplay}
 
 pub worked-replay : WorkedReplay
-unfolding nextTile tilesOk spriteFetch isFirst isPrefetched columnOf lineRefused counterRefused detectorOk tick again matchesAfter isLine meets seenAt offsetOf byteAt storedAt pageStored all prgShowsAs chrShowsAs wordNumber pageOf pageStart windowPage written regsOk placed prgValues prgShown windowsMapped exramPage windowPages chrNumber chrMapped selector namePage namesMapped sameLengths gateOf lengthsOk inRange chosen ppuAfter splitAfter irqAfter prgBanksAfter chrBanksAfter pageAnswer registerRead irqRead cpuAnswer prgPagesAfter chrPagesAfter registerWritten latched cpuStored cacheAfter ppuSeen splitSeen countedServed loadedState loadCall cpuRead cpuWrite clockCall statusTold detectorTold ppuRegisterCall countedCall ppuFetch chrAnswer countedPages cartridge grouped numeral limited numbered filled recordAt logged playedFrom replayed
+unfolding nextTile tilesOk spriteFetch isFirst isPrefetched columnOf lineRefused counterRefused detectorOk tick again matchesAfter isLine meets seenAt offsetOf byteAt storedAt pageStored all prgShowsAs chrShowsAs wordNumber pageOf pageStart windowPage written regsOk placed prgValues prgShown windowsMapped exramPage windowPages chrNumber chrMapped selector namePage namesMapped sameLengths gateOf lengthsOk inRange chosen ppuAfter splitAfter irqAfter prgBanksAfter chrBanksAfter pageAnswer registerRead irqRead cpuAnswer prgPagesAfter chrPagesAfter registerWritten latched cpuStored cacheAfter ppuSeen splitSeen countedServed loadedState loadCall cpuRead cpuWrite clockCall statusAfter detectorAfter ppuRegisterCall countedCall ppuFetch chrAnswer countedPages cartridge grouped numeral limited numbered filled recordAt logged playedFrom replayed
 worked-replay = record {
   loads = refl;
   ending = refl;

@@ -1,6 +1,6 @@
 -- The choice of a CHR set. 01, module 5: "Choosing in 8x8 first makes the last CHR write a sprite one."
 use Prim.Native.Nat.{ℕ}
-use mathlib.Core.Bool.{Bool, true, false, _&&_}
+use mathlib.Core.Bool.{Bool, true, false, _&&_, _||_, not}
 use lib.Dec.{eqb}
 use Rattle.memory.specs.Words.{pick}
 use Rattle.scanline.specs.Tiles.{spriteFetch}
@@ -26,3 +26,7 @@ ppuAfter p framed a =
     (pick (within 0x5120 0x5127 a) (chosen (withBgWritten p false) framed)
     (pick (within 0x5128 0x512B a) (chosen (withBgWritten p true) framed)
     p))
+
+-- The set that the table holds is not the one wanted. Module 5: "mapping only on a change".
+abbrev pub setChanged : Bool → Bool → Bool
+setChanged before after = (before && not after) || (not before && after)

@@ -1,6 +1,6 @@
 // Which CHR set the table holds, and which set the last CHR write was to.
 ghost use mathlib.Core.Path.{_≡_};
-ghost use Rattle.cpu.specs.Chosen.{chosen, ppuAfter};
+ghost use Rattle.cpu.specs.Chosen.{chosen, ppuAfter, setChanged};
 use crate::groups;
 use state::PpuStatus;
 
@@ -33,4 +33,11 @@ pub fn ppu_after(p: PpuStatus, in_frame: bool, addr: u16) -> PpuStatus
         return choose(next, in_frame);
     }
     next
+}
+
+// The set that the table holds is not the one wanted.
+pub fn set_changed(before: bool, after: bool) -> bool
+    ensures { λ r. ⌜ r ≡ setChanged before after ⌝ }
+{
+    (before & !after) | (!before & after)
 }

@@ -2,5 +2,6 @@
 // `prg_read`, `prg_peek` and `write_register`. Each group of the state has a function of its own; `writes` puts them together.
 pub mod chosen;
 pub mod groups;
+pub mod ppu_registers;
 pub mod reads;
 pub mod writes;

@@ -3,16 +3,14 @@ ghost use mathlib.Core.Path.{_≡_};
 ghost use Prim.Native.Nat.{_*_};
 ghost use Rattle.memory.specs.Bytes.{memOf};
 ghost use Rattle.memory.specs.Words.{pageOf};
-ghost use Rattle.cpu.specs.Reads.{shownAs, pageAnswer, registerRead, irqRead, cpuAnswer, audioRead};
+ghost use Rattle.cpu.specs.Reads.{shownAs, pageAnswer, registerRead, irqRead, audioRead};
 use crate::groups;
-use crate::writes;
 use answers::Answer;
 use memory::PageWord;
 use memory::Src;
 use registers::Regs;
 use scanline::Detector;
 use split::VSplit;
-use state::State;
 
 // A byte of a source, as it is answered.
 fn shown_as(src: Src, val: u8) -> Answer
@@ -102,26 +100,6 @@ pub fn irq_read(irq: Detector, addr: u16) -> Detector
         0xFFFB => scanline::vector_read(irq),
         _ => irq,
     }
-}
-
-// What a CPU read or peek answers.
-pub fn answer_at(
-    s: State,
-    prg: &[u8],
-    chr: &[u8],
-    ram: &[u8],
-    ciram: &[u8],
-    exram: &[u8],
-    addr: u16,
-) -> Answer
-    ensures { λ r. ⌜ r ≡ cpuAnswer s (memOf (now (prg .entry)) (now (chr .entry)) (now (ram .entry)) (now (ciram .entry)) (now (exram .entry))) addr ⌝ }
-{
-    let pages = s.prg_pages;
-    let word = writes::prg_word_at(pages, addr);
-    let page = page_answer(prg, chr, ram, ciram, exram, word, addr);
-    let prg_banks = s.prg_banks;
-    let chr_banks = s.chr_banks;
-    register_or(s.regs, s.vsplit, s.irq, prg_banks, chr_banks, addr, page)
 }
 
 // Refusal 6, of a read or a peek.

@@ -4,6 +4,7 @@ use crate::head::PEEKS;
 use crate::lines;
 use crate::peeks;
 use answers::Answer;
+use board::loads::Settings;
 use registers::Mirroring;
 use state::State;
 use trace::Found;
@@ -113,7 +114,11 @@ pub fn play(
     writable: bool,
     mirroring: Mirroring,
 ) {
-    let outcome = board::loads::load(prg, chr, ram, ciram, exram, writable, mirroring);
+    let settings = Settings {
+        chr_writable: writable,
+        mirroring,
+    };
+    let outcome = board::loads::load(prg, chr, ram, ciram, exram, settings);
     let answer = outcome.answer;
     if let Answer::Refused(why) = answer {
         lines::load_refused(why);

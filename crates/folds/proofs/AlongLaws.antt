@@ -19,8 +19,8 @@ use Rattle.state.specs.Gate.{gateMem}
 use Rattle.cpu.specs.Chosen.{chosen, ppuAfter}
 use Rattle.cpu.specs.Groups.{within}
 use Rattle.cpu.specs.Writes.{registerWritten}
+use Rattle.cpu.specs.PpuRegisters.{statusAfter}
 use Rattle.board.specs.Loads.{loadedState}
-use Rattle.board.specs.Whole.{statusTold}
 use Rattle.board_ppu.specs.Fetch.{patternCall}
 use Rattle.trace.specs.declared.Call.{Call}
 use Rattle.trace.specs.declared.Call.the-variants.{Clock, CpuRead, CpuWrite, PpuRegister, PpuFetch, Reset, PpuWrite}
@@ -75,8 +75,8 @@ choice-tiles p f a =
     let P : PpuStatus → Type 0 = λ (q : PpuStatus). q .«tile_number» ≡ p .«tile_number» in
     pick-keeps P (eqb a 0x5101) refl (pick-keeps P (within 0x5120 0x5127 a) refl (pick-keeps P (within 0x5128 0x512B a) refl refl))
 
-told-tiles : (p : PpuStatus) (a v : ℕ) → statusTold p a v .«tile_number» ≡ p .«tile_number»
-unfolding statusTold
+told-tiles : (p : PpuStatus) (a v : ℕ) → statusAfter p a v .«tile_number» ≡ p .«tile_number»
+unfolding statusAfter
 told-tiles p a v =
     let P : PpuStatus → Type 0 = λ (q : PpuStatus). q .«tile_number» ≡ p .«tile_number» in
     pick-keeps P (eqb a 0x2000) refl (pick-keeps P (eqb a 0x2001) refl refl)

@@ -22,12 +22,13 @@ use Rattle.cpu.specs.Chosen.{chosen, ppuAfter}
 use Rattle.cpu.specs.Groups.{within}
 use Rattle.cpu.specs.Reads.{cpuAnswer, audioRead}
 use Rattle.cpu.specs.Writes.{registerWritten, cpuStored}
+use Rattle.cpu.specs.PpuRegisters.{statusAfter}
 use Rattle.ppu.specs.Fetches.{cacheAfter, ppuSeen, splitSeen}
 use Rattle.ppu.specs.Served.{countedServed, patternServed}
 use Rattle.board.specs.declared.Outcome.{Outcome}
 use Rattle.board.specs.CpuSide.{cpuPeek}
 use Rattle.board.specs.Outcomes.{outcome, After, afterOf}
-use Rattle.board.specs.Whole.{statusTold, mirroringCall, interruptCall}
+use Rattle.board.specs.Whole.{mirroringCall, interruptCall}
 use Rattle.board_ppu.specs.Fetch.{countedCall, patternPages, patternCall}
 use Rattle.board_ppu.specs.Peeks.{ppuPeek, spritePeek}
 use Rattle.views.specs.Views.{cpuView, ppuView}
@@ -87,8 +88,8 @@ write p framed a = rw (four-looks .sprite-fetch (p .«tile_number»))
     (λ t. rw t (split (within 0x5120 0x5127 a) (λ u. rw u)
     (λ u. rw u (split (within 0x5128 0x512B a) (λ w. rw w) (λ w. rw w))))))
 
-register : (p : PpuStatus) (a v : ℕ) → statusTold (keptStatus p) a v ≡ keptStatus (statusTold p a v)
-unfolding statusTold
+register : (p : PpuStatus) (a v : ℕ) → statusAfter (keptStatus p) a v ≡ keptStatus (statusAfter p a v)
+unfolding statusAfter
 register p a v = split (eqb a 0x2000) (λ t. rw t) (λ t. rw t (split (eqb a 0x2001) (λ u. rw u) (λ u. rw u)))
 
 seen : (g : Regs) (m : ℕ) (p : PpuStatus) (a : ℕ) → ppuSeen g m (keptStatus p) a ≡ keptStatus (fullSeen g m p a)

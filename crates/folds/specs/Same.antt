@@ -14,9 +14,9 @@ use Rattle.state.specs.declared.gate.Gate.the-variants.{Open}
 use Rattle.state.specs.declared.PpuStatus.{PpuStatus}
 use Rattle.state.specs.Gate.{gateMem}
 use Rattle.cpu.specs.Chosen.{chosen, ppuAfter}
+use Rattle.cpu.specs.PpuRegisters.{statusAfter}
 use Rattle.ppu.specs.Fetches.{cacheAfter, ppuSeen, splitSeen}
 use Rattle.ppu.specs.Served.{countedServed, patternServed}
-use Rattle.board.specs.Whole.{statusTold}
 use Rattle.histories.specs.Accepted.{refusal}
 use Rattle.histories.specs.Boards.{Board, Made, says, leaves}
 use Rattle.histories.specs.Histories.{view}
@@ -33,7 +33,7 @@ pub record SameBoard : Type 0 where
   -- what leaves a status: the same one, but for the count in it
   pub choice : (p : PpuStatus) (framed : Bool) → chosen (keptStatus p) framed ≡ keptStatus (chosen p framed)
   pub write : (p : PpuStatus) (framed : Bool) (a : ℕ) → ppuAfter (keptStatus p) framed a ≡ keptStatus (ppuAfter p framed a)
-  pub register : (p : PpuStatus) (a v : ℕ) → statusTold (keptStatus p) a v ≡ keptStatus (statusTold p a v)
+  pub register : (p : PpuStatus) (a v : ℕ) → statusAfter (keptStatus p) a v ≡ keptStatus (statusAfter p a v)
   pub seen : (g : Regs) (m : ℕ) (p : PpuStatus) (a : ℕ) → ppuSeen g m (keptStatus p) a ≡ keptStatus (fullSeen g m p a)
   -- and so each call: on what is kept of a full board, where it is accepted, the board says what the full board says, and leaves what is kept of what that
   -- leaves

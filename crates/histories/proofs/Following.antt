@@ -11,8 +11,8 @@ use Rattle.state.specs.declared.State.{State}
 use Rattle.cpu.specs.Groups.{irqAfter}
 use Rattle.cpu.specs.Reads.{irqRead}
 use Rattle.cpu.specs.Writes.{registerWritten}
+use Rattle.cpu.specs.PpuRegisters.{detectorAfter}
 use Rattle.board.specs.Outcomes.{After}
-use Rattle.board.specs.Whole.{detectorTold}
 use Rattle.board_ppu.specs.Fetch.{countedCall, patternCall}
 use Rattle.trace.specs.declared.Call.{Call}
 use Rattle.trace.specs.declared.Call.the-variants.{Clock, CpuRead, CpuWrite, PpuRegister, PpuFetch, Reset, PpuWrite}
@@ -36,7 +36,7 @@ unfolding irqAfter step
 write-steps d a v = refl
 
 steps : (c : Call) (s : State) (m : Mem) → done c s m .out .state .irq ≡ step (s .irq) (event (call c))
-unfolding step detectorTold registerWritten countedCall patternCall
+unfolding step detectorAfter registerWritten countedCall patternCall
 steps Clock s m = refl
 steps (CpuRead a) s m = read-steps (s .irq) (a .0)
 steps (CpuWrite a v) s m = write-steps (s .irq) (a .0) v

@@ -82,7 +82,7 @@ abbrev pub Is : {K : Type 0} {A R E : K → Type 0} → ((κ : K) → A κ → R
 Is {K} {A} {R} {E} allows means = (κ : K) (a : A κ) (r : R κ) (e : E κ) → allows κ a r e → r ≡ means κ a
 
 pub record CodeIsTheBoard : Type 0 where
-  pub loads : Is board-load.Learnt (λ κ a. loadCall (memLent a) (behindMemory a .0) (behindMemory a .1 .0))
+  pub loads : Is board-load.Learnt (λ κ a. loadCall (memLent a) (behindMemory a .0 .«chr_writable») (behindMemory a .0 .mirroring))
   -- what happens is what the definitions say, and each call that they speak of can happen
   pub only : (t : Step) → Happens t → t ≡ meant (t .before) (t .made)
   pub each : (b : Board) (c : Made) → Happens (meant b c)

@@ -31,7 +31,7 @@ use Rattle.board.specs.declared.Outcome.{Outcome}
 use Rattle.board.specs.CpuSide.{cpuRead}
 use Rattle.board.specs.Outcomes.{outcome, refused}
 use Rattle.board.specs.Whole.{clockCall}
-use Rattle.arms.proofs.Made.{read-made}
+use Rattle.board_ppu.proofs.Made.{read-made}
 use Rattle.words.specs.Gate.{wordsInRange, gateOn, gateMemOn}
 use Rattle.words.specs.Put.{irqBytes, irqHalves}
 use Rattle.words.specs.Words.{Words, wordsAt, good, stateOf, wordsOf}

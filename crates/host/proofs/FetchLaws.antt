@@ -28,17 +28,17 @@ use Rattle.state.specs.Gate.{gateMem}
 use Rattle.state.specs.With.{withIrq, withPpu, withVsplit, withChrPages}
 use Rattle.state.proofs.RangeLaws.{ranged}
 use Rattle.banks.specs.Chr.{chrMapped}
-use Rattle.cpu.specs.Chosen.{chosen}
+use Rattle.cpu.specs.Chosen.{chosen, setChanged}
 use Rattle.cpu.specs.Reads.{pageAnswer}
 use Rattle.ppu.specs.Fetches.{ppuSeen, splitSeen}
 use Rattle.ppu.specs.Served.{countedServed, patternServed}
 use Rattle.board.specs.declared.Outcome.{Outcome}
 use Rattle.board.specs.Outcomes.{outcome}
-use Rattle.board_ppu.specs.Fetch.{setChanged, patternPages, ppuFetch}
+use Rattle.board_ppu.specs.Fetch.{patternPages, ppuFetch}
 use Rattle.board_ppu.specs.Peeks.{chrWordAt, chrAnswer}
 use Rattle.promises.proofs.Gates.{in-range-of}
-use Rattle.arms.specs.Sides.{chosenAt}
-use Rattle.arms.proofs.Made.{fetch-counted, fetch-other}
+use Rattle.steps.specs.Sides.{chosenAt}
+use Rattle.board_ppu.proofs.Made.{fetch-counted, fetch-other}
 use Rattle.words.specs.Put.{irqBytes, irqHalves, regionBytes, regionHalves, tileHalves, tileWide, setBytes}
 use Rattle.words.specs.Words.{Words, wordsAt, pagesOf, numbersOf, stateOf}
 use Rattle.words.proofs.PutLaws.{Sound, KeepsFlags, KeepsSplit, KeepsTiles, counted-put, pattern-put}

@@ -4,13 +4,14 @@ ghost use Rattle.memory.specs.Bytes.{memOf};
 ghost use Rattle.memory.specs.Words.{pick};
 ghost use Rattle.state.specs.declared.State.{State};
 ghost use Rattle.banks.specs.Chr.{chrMapped};
-ghost use Rattle.board_ppu.specs.Fetch.{ppuFetch, setChanged};
+ghost use Rattle.cpu.specs.Chosen.{setChanged};
+ghost use Rattle.board_ppu.specs.Fetch.{ppuFetch};
 ghost use Rattle.words.specs.Words.{wordsAt, lengthsOf, regsOf, pagesOf, numbersOf};
 ghost use Rattle.host.specs.Hosted.{leftWords, onWords};
 use answers::Answer;
 use answers::Refusal;
-use arms::ppu_side;
 use state::gate::Gate;
+use steps::ppu_side;
 
 // "mapping only on a change"
 fn map_on_change(
@@ -27,20 +28,13 @@ fn map_on_change(
         (chrMapped (lengthsOf (now (bytes .entry)) (now (wide .entry)) .chr) (lengthsOf (now (bytes .entry)) (now (wide .entry)) .«chr_writable») (regsOf (now (bytes .entry)) (now (halves .entry))) (now (banks .entry)) after (pagesOf (now (numbers .entry))))
         (pagesOf (now (numbers .entry)))) ⌝ }
 {
-    if !board_ppu::calls::set_changed(before, after) {
+    if !cpu::chosen::set_changed(before, after) {
         return;
     }
     let lengths = words::read::lengths_of(bytes, wide);
     let regs = words::read::regs_of(bytes, halves);
     let shown = words::tables::chr_table(*numbers);
-    let mapped = banks::chr::map_chr(
-        lengths.chr,
-        lengths.chr_writable,
-        regs,
-        *banks,
-        after,
-        shown,
-    );
+    let mapped = banks::chr::map_chr(lengths, regs, *banks, after, shown);
     *numbers = words::tables::chr_numbers(mapped);
 }
 

@@ -6,6 +6,7 @@ ghost use Rattle.memory.specs.Bytes.{memOf};
 ghost use Rattle.board.specs.Loads.{loadCall};
 ghost use Rattle.words.specs.Words.{wordsAt, mirroringNumbered};
 ghost use Rattle.host.specs.Hosted.{leftWords, leavingWords};
+use board::loads::Settings;
 
 // CHR is writable where the byte is not 0; mirroring is 0 to 4, and 4 stands for what is above. What the words held does not matter. A refused
 // load leaves the zero state.
@@ -29,7 +30,11 @@ pub extern "C" fn mmc5_load(
     ensures { λ r. ⌜ leftWords r (wordsAt (now (bytes .exit)) (now (halves .exit)) (now (wide .exit)) (now («prg_banks» .exit)) (now («chr_banks» .exit)) (now («prg_pages» .exit)) (now («chr_pages» .exit))) ≡ leavingWords (loadCall (memOf (now (prg .entry)) (now (chr .entry)) (now (ram .entry)) (now (ciram .entry)) (now (exram .entry))) (not (eqb «chr_writable» 0)) (mirroringNumbered mirroring)) ⌝ }
 {
     let screen = words::read::mirroring_numbered(mirroring);
-    let o = board::loads::load(prg, chr, ram, ciram, exram, chr_writable != 0, screen);
+    let settings = Settings {
+        chr_writable: chr_writable != 0,
+        mirroring: screen,
+    };
+    let o = board::loads::load(prg, chr, ram, ciram, exram, settings);
     let answer = o.answer;
     let t = o.state;
     let irq = t.irq;

@@ -11,6 +11,8 @@ use Rattle.memory.specs.Words.{pick, pageOf}
 use Rattle.answers.specs.declared.Answer.{Answer}
 use Rattle.answers.specs.declared.Answer.the-variants.{Nothing}
 use Rattle.answers.specs.declared.Refusal.the-variants.{Audio, Counter}
+use Rattle.registers.specs.declared.Regs.{Regs}
+use Rattle.registers.specs.Registers.{resetRegs}
 use Rattle.scanline.specs.declared.Detector.{Detector}
 use Rattle.scanline.specs.Fetches.{countedAt}
 use Rattle.scanline.specs.Ranges.{counterRefused}
@@ -22,9 +24,9 @@ use Rattle.state.specs.With.{withIrq, withRegs, withPpu, withVsplit, withChrPag
 use Rattle.state.proofs.RangeLaws.{Ranged, ranged}
 use Rattle.cpu.specs.Reads.{audioRead, irqRead, cpuAnswer}
 use Rattle.cpu.specs.Writes.{audioWrite, latched, prgWordAt, registerWritten}
+use Rattle.cpu.specs.PpuRegisters.{statusAfter, detectorAfter}
 use Rattle.ppu.specs.Served.{countedServed, patternServed}
 use Rattle.board.specs.Outcomes.{outcome, afterOf}
-use Rattle.board.specs.Whole.{resetRegs, statusTold, detectorTold}
 use Rattle.board_ppu.specs.Fetch.{countedIrq, countedPpu, countedSplit, patternPages, ppuFetch}
 use Rattle.board_ppu.specs.Peeks.{chrWordAt, chrAnswer}
 use Rattle.trace.specs.declared.Call.{Call}
@@ -37,8 +39,8 @@ use Rattle.promises.proofs.Refusals.{answer-is-given}
 use Rattle.player.specs.declared.Ending.the-variants.{Stopped}
 use Rattle.logs.specs.Logs.{logged}
 use Rattle.player.specs.Replay.{Left, ended}
-use Rattle.arms.specs.Sides.{chosenAt}
-use Rattle.arms.proofs.Made
+use Rattle.steps.specs.Sides.{chosenAt}
+use Rattle.board_ppu.proofs.Made
 use Rattle.player.proofs.Steps.{Going, stops, goes}
 
 module _ {trace : List ℕ} {all : Left} {m₀ : Mem} {log₀ : List ℕ} {at count : ℕ} {s : State} {m : Mem} {log : List ℕ} (g : Going trace all m₀ log₀ at count s m log) where
@@ -54,8 +56,8 @@ module _ {trace : List ℕ} {all : Left} {m₀ : Mem} {log₀ : List ℕ} {at co
     pub clock-arm : (d : Detector) → call ≡ Clock → d ≡ clocked (s .irq) → Onward next Nothing (withIrq s d) m
     clock-arm d k e = goes trace all m₀ log₀ at count s m log call next found Nothing _ m g (rw (k, e, g .gate) (ap (λ o. afterOf o m) (Made.clock-made s m (g .gate)))) refl
 
-    pub reset-arm : call ≡ Reset → Onward next Nothing (withRegs s (resetRegs (s .regs))) m
-    reset-arm k = goes trace all m₀ log₀ at count s m log call next found Nothing _ m g (rw (k, g .gate) (ap (λ o. afterOf o m) (Made.reset-made s m (g .gate)))) refl
+    pub reset-arm : (r : Regs) → call ≡ Reset → r ≡ resetRegs (s .regs) → Onward next Nothing (withRegs s r) m
+    reset-arm r k e = goes trace all m₀ log₀ at count s m log call next found Nothing _ m g (rw (k, e, g .gate) (ap (λ o. afterOf o m) (Made.reset-made s m (g .gate)))) refl
 
     module _ {addr : CpuAddr} where
       pub read-stop : call ≡ CpuRead addr → audioRead (addr .0) ≡ true → ended (Stopped at Audio) s m log ≡ all
@@ -68,7 +70,7 @@ module _ {trace : List ℕ} {all : Left} {m₀ : Mem} {log₀ : List ℕ} {at co
           (goes trace all m₀ log₀ at count s m log call next found (cpuAnswer s m (addr .0)) _ m g (rw (k, ed) (ap (λ o. afterOf o m) (Made.read-made s m (g .gate) (addr .0) f))) (answer-is-given s m (addr .0)))
 
       module _ {v : ℕ} where
-        pub register-arm : (p : PpuStatus) (d : Detector) → call ≡ PpuRegister addr v → p ≡ statusTold (s .ppu) (addr .0) v → d ≡ detectorTold (s .irq) (addr .0) v
+        pub register-arm : (p : PpuStatus) (d : Detector) → call ≡ PpuRegister addr v → p ≡ statusAfter (s .ppu) (addr .0) v → d ≡ detectorAfter (s .irq) (addr .0) v
             → Onward next Nothing (withIrq (withPpu s p) d) m
         register-arm p d k ep ed =
             goes trace all m₀ log₀ at count s m log call next found Nothing _ m g (rw (k, ep, ed, g .gate) (ap (λ o. afterOf o m) (Made.register-made s m (g .gate) (addr .0) v))) refl

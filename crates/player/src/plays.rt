@@ -11,10 +11,10 @@ use crate::Ending;
 use crate::Replayed;
 use answers::Answer;
 use answers::Refusal;
-use arms::cpu_side;
-use arms::ppu_side;
 use state::Screen;
 use state::State;
+use steps::cpu_side;
+use steps::ppu_side;
 use trace::Call;
 use trace::Found;
 
@@ -107,13 +107,7 @@ pub fn play(
                         let old_banks = t.prg_banks;
                         let banks = cpu::groups::prg_banks_after(old_banks, a, val);
                         let old_pages = t.prg_pages;
-                        let pages = banks::prg::map_prg(
-                            lengths.prg,
-                            lengths.ram,
-                            regs,
-                            banks,
-                            old_pages,
-                        );
+                        let pages = banks::prg::map_prg(lengths, regs, banks, old_pages);
                         t.prg_banks = banks;
                         t.prg_pages = pages;
                         logs::log_record(log, count, Answer::Nothing, t.irq);
@@ -154,8 +148,8 @@ pub fn play(
                 }
                 Call::PpuRegister(addr, val) => {
                     let a = addr.0;
-                    let ppu = board::ppu_registers::status_told(t.ppu, a, val);
-                    let irq = board::ppu_registers::detector_told(t.irq, a, val);
+                    let ppu = cpu::ppu_registers::status_after(t.ppu, a, val);
+                    let irq = cpu::ppu_registers::detector_after(t.irq, a, val);
                     t.ppu = ppu;
                     t.irq = irq;
                     logs::log_record(log, count, Answer::Nothing, irq);
@@ -197,13 +191,12 @@ pub fn play(
                         continue;
                     }
                     let ppu = ppu_side::chosen_at(t.ppu, t.irq.in_frame, a);
-                    if board_ppu::calls::set_changed(t.ppu.bg_set, ppu.bg_set) {
+                    if cpu::chosen::set_changed(t.ppu.bg_set, ppu.bg_set) {
                         let lengths = t.lengths;
                         let banks = t.chr_banks;
                         let old_pages = t.chr_pages;
                         let pages = banks::chr::map_chr(
-                            lengths.chr,
-                            lengths.chr_writable,
+                            lengths,
                             t.regs,
                             banks,
                             ppu.bg_set,
@@ -232,8 +225,8 @@ pub fn play(
                     continue;
                 }
                 Call::Reset => {
-                    t.regs.prg_mode = 3;
-                    t.regs.chr_mode = 3;
+                    let regs = registers::reset(t.regs);
+                    t.regs = regs;
                     logs::log_record(log, count, Answer::Nothing, t.irq);
                     count += 1;
                     at = next;

@@ -13,7 +13,7 @@ use Rattle.memory.specs.Words.{word, pageOf}
 use Rattle.memory.proofs.Tests.{pick-keeps}
 use Rattle.registers.specs.declared.Mirroring.{Mirroring}
 use Rattle.registers.specs.declared.Regs.{Regs}
-use Rattle.registers.specs.Registers.{written, nametableUse, regsOk}
+use Rattle.registers.specs.Registers.{written, nametableUse, regsOk, resetRegs}
 use Rattle.registers.proofs.RangeLaws.{ranges-say, ranges-hold, loaded-in-range, write-keeps}
 use Rattle.scanline.specs.declared.Detector.{Detector}
 use Rattle.scanline.specs.Tiles.{tilesOk}
@@ -34,8 +34,9 @@ use Rattle.cpu.specs.Chosen.{chosen, ppuAfter}
 use Rattle.cpu.specs.Groups.{within, splitAfter, irqAfter}
 use Rattle.cpu.specs.Reads.{irqRead}
 use Rattle.cpu.specs.Writes.{mapsPrg, mapsChr, mapsNames, prgPagesAfter, chrPagesAfter, registerWritten}
+use Rattle.cpu.specs.PpuRegisters.{statusAfter, detectorAfter}
 use Rattle.board.specs.Loads.{loadedState}
-use Rattle.board.specs.Whole.{resetRegs, statusTold, detectorTold, toldPpu}
+use Rattle.board.specs.Whole.{ppuRegisterWritten}
 use Rattle.promises.proofs.Mapped.{Mappable, windows-keep, exram-keeps, chr-keeps, names-keep}
 
 pub mappable : (z : Lengths) → lengthsOk z ≡ true → Mappable (z .prg) (z .chr) (z .ram)
@@ -157,19 +158,19 @@ pub reset-keeps-range : (s : State) → inRange s ≡ true → inRange (withRegs
 reset-keeps-range s h = let r = ranged s h in groups-keep-range s (resetRegs (s .regs)) (s .irq) (s .ppu) h (reset-regs-keep (s .regs) (r .regs)) (r .detector) (r .cache) (r .tiles)
 
 -- The sprites' size and rendering have no range; a break keeps the detector's.
-status-keeps : (p : PpuStatus) (a v : ℕ) → StatusOk p → StatusOk (statusTold p a v)
-unfolding statusTold
+status-keeps : (p : PpuStatus) (a v : ℕ) → StatusOk p → StatusOk (statusAfter p a v)
+unfolding statusAfter
 status-keeps p a v h = pick-keeps StatusOk (eqb a 0x2000) h (pick-keeps StatusOk (eqb a 0x2001) h h)
 
-detector-keeps : (d : Detector) (a v : ℕ) → Sound d → Sound (detectorTold d a v)
-unfolding detectorTold
+detector-keeps : (d : Detector) (a v : ℕ) → Sound d → Sound (detectorAfter d a v)
+unfolding detectorAfter
 detector-keeps d a v h = pick-keeps Sound (eqb a 0x2001 && dark v) (ranges-kept .darkened d h) h
 
-pub register-keeps-range : (s : State) (a v : ℕ) → inRange s ≡ true → inRange (toldPpu s a v) ≡ true
+pub register-keeps-range : (s : State) (a v : ℕ) → inRange s ≡ true → inRange (ppuRegisterWritten s a v) ≡ true
 register-keeps-range s a v h =
     let r = ranged s h in
     let p = status-keeps (s .ppu) a v (r .cache, r .tiles) in
-    groups-keep-range s (s .regs) (detectorTold (s .irq) a v) (statusTold (s .ppu) a v) h (r .regs) (detector-keeps (s .irq) a v (r .detector)) (p .0) (p .1)
+    groups-keep-range s (s .regs) (detectorAfter (s .irq) a v) (statusAfter (s .ppu) a v) h (r .regs) (detector-keeps (s .irq) a v (r .detector)) (p .0) (p .1)
 
 -- Load: tables of blank pages are in range, and mapping keeps them so.
 blank-prg : (prg ram : ℕ) → prgTableOk prg ram (replicate 64 (word 0)) ≡ true

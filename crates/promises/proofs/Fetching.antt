@@ -25,9 +25,9 @@ use Rattle.state.specs.declared.State.{State}
 use Rattle.state.specs.Gate.{gateMem}
 use Rattle.state.specs.Ranges.{inRange}
 use Rattle.state.proofs.RangeLaws.{ranged, in-range}
-use Rattle.cpu.specs.Chosen.{chosen}
+use Rattle.cpu.specs.Chosen.{chosen, setChanged}
 use Rattle.ppu.specs.Fetches.{cacheAfter, ppuSeen, splitSeen}
-use Rattle.board_ppu.specs.Fetch.{countedIrq, countedPpu, countedSplit, countedState, countedCall, setChanged, patternPages, patternPpu, patternState, patternCall, ppuFetch}
+use Rattle.board_ppu.specs.Fetch.{countedIrq, countedPpu, countedSplit, countedState, countedCall, patternPages, patternPpu, patternState, patternCall, ppuFetch}
 use Rattle.board_ppu.specs.Peeks.{ppuWrite}
 use Rattle.promises.proofs.Calls.{mappable}
 use Rattle.promises.proofs.Gates.{same, in-range-of, stays, page-stored-sizes}

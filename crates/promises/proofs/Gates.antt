@@ -28,7 +28,7 @@ use Rattle.cpu.specs.Reads.{audioRead}
 use Rattle.cpu.specs.Writes.{latched, prgWordAt, registerWritten, cpuStored, audioWrite}
 use Rattle.board.specs.CpuSide.{cpuRead, cpuWrite}
 use Rattle.board.specs.Loads.{recorded, loadedState, loadCall}
-use Rattle.board.specs.Whole.{toldPpu, resetCall, clockCall, ppuRegisterCall}
+use Rattle.board.specs.Whole.{ppuRegisterWritten, resetCall, clockCall, ppuRegisterCall}
 use Rattle.promises.proofs.Calls.{write-keeps-range, read-keeps-range, clock-keeps-range, reset-keeps-range, register-keeps-range, load-in-range}
 
 -- Buffers of the same lengths.
@@ -86,7 +86,7 @@ written-lengths : (s : State) (a v : ℕ) → registerWritten s a v .lengths ≡
 unfolding registerWritten
 written-lengths s a v = refl
 
-told-lengths : (s : State) (a v : ℕ) → toldPpu s a v .lengths ≡ s .lengths
+told-lengths : (s : State) (a v : ℕ) → ppuRegisterWritten s a v .lengths ≡ s .lengths
 told-lengths s a v = refl
 
 eqb-same : (n : ℕ) → eqb n n ≡ true

@@ -12,6 +12,11 @@ abbrev pub regsAtLoad : Regs
 regsAtLoad =
     record { «prg_mode» = 3; «chr_mode» = 3; «protect_a» = 0; «protect_b» = 0; «exram_mode» = 0; «exram_chosen» = false; nametables = 0; «fill_tile» = 255; «fill_attr» = 3; «chr_hi» = 0; multiplicand = 255; multiplier = 255 }
 
+-- 01, module 10: "Reset sets modes 8k and 1k and maps nothing."
+abbrev pub resetRegs : Regs → Regs
+resetRegs g =
+    record { «prg_mode» = 3; «chr_mode» = 3; «protect_a» = g .«protect_a»; «protect_b» = g .«protect_b»; «exram_mode» = g .«exram_mode»; «exram_chosen» = g .«exram_chosen»; nametables = g .nametables; «fill_tile» = g .«fill_tile»; «fill_attr» = g .«fill_attr»; «chr_hi» = g .«chr_hi»; multiplicand = g .multiplicand; multiplier = g .multiplier }
+
 -- "attribute use in 1"
 abbrev pub attributeUse : Regs → Bool
 attributeUse g = eqb (g .«exram_mode») 1

@@ -2,7 +2,7 @@
 // 01, module 3, and their part of module 9; in the Rust, `Regs` and its arms of `write_register`.
 ghost use mathlib.Core.Path.{_≡_};
 ghost use Rattle.memory.specs.Words.{pick};
-ghost use Rattle.registers.specs.Registers.{regsAtLoad, written, attributeUse, nametableUse, unlocked, regsOk};
+ghost use Rattle.registers.specs.Registers.{regsAtLoad, resetRegs, written, attributeUse, nametableUse, unlocked, regsOk};
 ghost use Rattle.registers.specs.Mirrorings.{mirroringOf, mirroringAfter};
 
 // `exram_chosen` says that $5104 was written: nametable use is off before.
@@ -47,6 +47,16 @@ pub fn new() -> Regs
         multiplicand: 255,
         multiplier: 255,
     }
+}
+
+// Modes 8k and 1k.
+pub fn reset(regs: Regs) -> Regs
+    ensures { λ r. ⌜ r ≡ resetRegs regs ⌝ }
+{
+    let mut next = regs;
+    next.prg_mode = 3;
+    next.chr_mode = 3;
+    next
 }
 
 // ExRAM holds attributes.

@@ -2,7 +2,7 @@
 -- are written out, so that a must-fail edit is refused with what differs: write another out so where a refused search does not name the function.
 use Rattle.settles.specs.Every.{EveryContract}
 use Rattle.settles.proofs.Law.{settled}
-use Rattle.settles.proofs.Several.{stored, placed, written, arm-stored, counted, detector-put, region-put, tiles-put, clocked, made, moved}
+use Rattle.settles.proofs.Several.{stored, placed, step-stored, counted, detector-put, region-put, tiles-put, clocked, made, moved}
 
 pub every-contract : EveryContract
 every-contract = record {
@@ -13,7 +13,7 @@ every-contract = record {
   of-scanline = search settled;
   of-split = search settled;
   of-state = search settled;
-  of-cpu = search (settled, written);
+  of-cpu = search settled;
   of-ppu = search settled;
   of-board = search settled;
   of-board-ppu = search settled;
@@ -22,7 +22,7 @@ every-contract = record {
   of-calls = search settled;
   of-text = search settled;
   of-logs = search settled;
-  of-arms = search (settled, arm-stored, counted);
+  of-steps = search (settled, step-stored, counted);
   of-player = search settled;
   of-transcript = search settled;
   of-words = search (settled, detector-put, region-put, tiles-put);

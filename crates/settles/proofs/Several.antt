@@ -3,9 +3,8 @@ use mathlib.Core.List.{[]}
 use denote.Ref.{now}
 use Rattle.memory.proofs.bytes.store.Reads as memory-store
 use Rattle.memory.proofs.tables.prg_place.Reads as memory-prg-place
-use Rattle.cpu.proofs.writes.cpu_write.Reads as cpu-write
-use Rattle.arms.proofs.cpu_side.store.Reads as arms-store
-use Rattle.arms.proofs.ppu_side.count_fetch.Reads as arms-count-fetch
+use Rattle.steps.proofs.cpu_side.store.Reads as steps-store
+use Rattle.steps.proofs.ppu_side.count_fetch.Reads as steps-count-fetch
 use Rattle.calls.specs.Lent.{memLeft}
 use Rattle.words.proofs.groups.put_detector.Reads as words-put-detector
 use Rattle.words.proofs.groups.put_region.Reads as words-put-region
@@ -20,13 +19,10 @@ stored κ a r r' e e' p q = settled (p []) (q [])
 pub placed : Result memory-prg-place.Learnt
 placed κ a r r' e e' p q = settled (p .0) (q .0)
 
-pub written : Settles cpu-write.Learnt (λ κ a r e. beside r (memLeft [] (e .1)))
-written κ a r r' e e' p q = both (settled (p .0) (q .0)) (settled (p .1 []) (q .1 []))
+pub step-stored : Settles steps-store.Learnt (λ κ a r e. memLeft [] e)
+step-stored κ a r r' e e' p q = settled (p []) (q [])
 
-pub arm-stored : Settles arms-store.Learnt (λ κ a r e. memLeft [] e)
-arm-stored κ a r r' e e' p q = settled (p []) (q [])
-
-pub counted : Result arms-count-fetch.Learnt
+pub counted : Result steps-count-fetch.Learnt
 counted κ a r r' e e' p q = λ i. record { irq = settled (p .0) (q .0) i; ppu = settled (p .1 .0) (q .1 .0) i; vsplit = settled (p .1 .1) (q .1 .1) i }
 
 pub detector-put : Settles words-put-detector.Learnt (λ κ a r e. beside (now (e .1 .0)) (now (e .1 .1 .0)))

@@ -12,16 +12,12 @@ use Rattle.board.proofs.cpu_side.cpu_peek.Reads as board-cpu-peek
 use Rattle.board.proofs.cpu_side.cpu_write.Reads as board-cpu-write
 use Rattle.board.proofs.refuse.Reads as board-refuse
 use Rattle.board.proofs.loads.load.Reads as board-load
-use Rattle.board.proofs.ppu_registers.status_told.Reads as board-status-told
-use Rattle.board.proofs.ppu_registers.detector_told.Reads as board-detector-told
 use Rattle.board.proofs.ppu_registers.ppu_register.Reads as board-ppu-register
 use Rattle.board.proofs.whole.reset.Reads as board-reset
 use Rattle.board.proofs.whole.mirroring.Reads as board-mirroring
 use Rattle.board.proofs.whole.interrupt_up.Reads as board-interrupt-up
-use Rattle.board_ppu.proofs.calls.set_changed.Reads as board-ppu-set-changed
 use Rattle.board_ppu.proofs.calls.ppu_fetch.Reads as board-ppu-ppu-fetch
 use Rattle.board_ppu.proofs.pages.chr_word_at.Reads as board-ppu-chr-word-at
-use Rattle.board_ppu.proofs.pages.page_at.Reads as board-ppu-page-at
 use Rattle.board_ppu.proofs.peeks.ppu_peek.Reads as board-ppu-ppu-peek
 use Rattle.board_ppu.proofs.peeks.sprite_peek.Reads as board-ppu-sprite-peek
 use Rattle.board_ppu.proofs.stores.ppu_write.Reads as board-ppu-ppu-write
@@ -44,13 +40,16 @@ use Rattle.text.proofs.words.decimal.Reads as text-decimal
 use Rattle.text.proofs.words.number.Reads as text-number
 use Rattle.text.proofs.words.letter.Reads as text-letter
 use Rattle.logs.proofs.log_record.Reads as logs-log-record
-use Rattle.arms.proofs.cpu_side.read.Reads as arms-read
-use Rattle.arms.proofs.cpu_side.store.Reads as arms-store
-use Rattle.arms.proofs.cpu_side.exram_word.Reads as arms-exram-word
-use Rattle.arms.proofs.ppu_side.count_fetch.Reads as arms-count-fetch
-use Rattle.arms.proofs.ppu_side.counted_answer.Reads as arms-counted-answer
-use Rattle.arms.proofs.ppu_side.chosen_at.Reads as arms-chosen-at
-use Rattle.arms.proofs.ppu_side.other_answer.Reads as arms-other-answer
+use Rattle.steps.proofs.cpu_side.read.Reads as steps-read
+use Rattle.steps.proofs.cpu_side.store.Reads as steps-store
+use Rattle.steps.proofs.cpu_side.exram_word.Reads as steps-exram-word
+use Rattle.steps.proofs.ppu_side.count_fetch.Reads as steps-count-fetch
+use Rattle.steps.proofs.ppu_side.counted_answer.Reads as steps-counted-answer
+use Rattle.steps.proofs.ppu_side.chosen_at.Reads as steps-chosen-at
+use Rattle.steps.proofs.ppu_side.map_on_change.Reads as steps-map-on-change
+use Rattle.steps.proofs.ppu_side.other_answer.Reads as steps-other-answer
+use Rattle.steps.proofs.register_writes.write_prg.Reads as steps-write-prg
+use Rattle.steps.proofs.register_writes.write_other.Reads as steps-write-other
 use Rattle.player.proofs.replay.Reads as player-replay
 use Rattle.player.proofs.plays.play.Reads as player-play
 use Rattle.transcript.proofs.printed.print.Reads as transcript-print
@@ -65,18 +64,14 @@ pub record Board : Type 0 where
   pub cpu-write : Settles board-cpu-write.Learnt (λ κ a r e. afterOf r (memLeft (now (a .1 .0)) (e .1 .1)))
   pub refuse : Result board-refuse.Learnt
   pub load : Result board-load.Learnt
-  pub status-told : Result board-status-told.Learnt
-  pub detector-told : Result board-detector-told.Learnt
   pub ppu-register : Result board-ppu-register.Learnt
   pub reset : Result board-reset.Learnt
   pub mirroring : Result board-mirroring.Learnt
   pub interrupt-up : Result board-interrupt-up.Learnt
 
 pub record BoardPpu : Type 0 where
-  pub set-changed : Result board-ppu-set-changed.Learnt
   pub ppu-fetch : Result board-ppu-ppu-fetch.Learnt
   pub chr-word-at : Result board-ppu-chr-word-at.Learnt
-  pub page-at : Result board-ppu-page-at.Learnt
   pub ppu-peek : Result board-ppu-ppu-peek.Learnt
   pub sprite-peek : Result board-ppu-sprite-peek.Learnt
   pub ppu-write : Settles board-ppu-ppu-write.Learnt (λ κ a r e. afterOf r (memLeft (now (a .1 .0)) (e .1 .1)))
@@ -110,14 +105,17 @@ pub record Text : Type 0 where
 pub record Logs : Type 0 where
   pub log-record : Settles logs-log-record.Learnt (λ κ a r e. now (e .0))
 
-pub record Arms : Type 0 where
-  pub read : Result arms-read.Learnt
-  pub store : Settles arms-store.Learnt (λ κ a r e. memLeft [] e)
-  pub exram-word : Result arms-exram-word.Learnt
-  pub count-fetch : Result arms-count-fetch.Learnt
-  pub counted-answer : Result arms-counted-answer.Learnt
-  pub chosen-at : Result arms-chosen-at.Learnt
-  pub other-answer : Result arms-other-answer.Learnt
+pub record Steps : Type 0 where
+  pub read : Result steps-read.Learnt
+  pub store : Settles steps-store.Learnt (λ κ a r e. memLeft [] e)
+  pub exram-word : Result steps-exram-word.Learnt
+  pub count-fetch : Result steps-count-fetch.Learnt
+  pub counted-answer : Result steps-counted-answer.Learnt
+  pub chosen-at : Result steps-chosen-at.Learnt
+  pub map-on-change : Result steps-map-on-change.Learnt
+  pub other-answer : Result steps-other-answer.Learnt
+  pub write-prg : Result steps-write-prg.Learnt
+  pub write-other : Result steps-write-other.Learnt
 
 pub record Player : Type 0 where
   pub replay : Settles player-replay.Learnt (λ κ a r e. leftOf r (memLeft (now (a .1 .1 .0)) (e .1 .1 .1)) (now (e .1 .1 .1 .1 .1 .1 .1 .0)))

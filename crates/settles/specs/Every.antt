@@ -2,7 +2,7 @@
 -- the like) has nothing to settle. The programs' own functions print, and have no contract: docs/DECISIONS.md, "Forms".
 -- Assumes nothing.
 use Rattle.settles.specs.Leaves.{Memory, Answers, Registers, Banks, Scanline, Split, State, Cpu, Ppu}
-use Rattle.settles.specs.Entries.{Board, BoardPpu, Views, Trace, Calls, Text, Logs, Arms, Player, Transcript}
+use Rattle.settles.specs.Entries.{Board, BoardPpu, Views, Trace, Calls, Text, Logs, Steps, Player, Transcript}
 use Rattle.settles.specs.Hosts.{Words, Told, Host, HostLooks, HostReplay}
 use Rattle.settles.specs.ByHand.{ByHand}
 
@@ -23,7 +23,7 @@ pub record EveryContract : Type 0 where
   pub of-calls : Calls
   pub of-text : Text
   pub of-logs : Logs
-  pub of-arms : Arms
+  pub of-steps : Steps
   pub of-player : Player
   pub of-transcript : Transcript
   pub of-words : Words

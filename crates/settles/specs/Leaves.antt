@@ -21,6 +21,7 @@ use Rattle.answers.proofs.letter_of.Reads as answers-letter-of
 use Rattle.answers.proofs.has_value.Reads as answers-has-value
 use Rattle.answers.proofs.value_of.Reads as answers-value-of
 use Rattle.registers.proofs.new.Reads as registers-new
+use Rattle.registers.proofs.reset.Reads as registers-reset
 use Rattle.registers.proofs.attribute_use.Reads as registers-attribute-use
 use Rattle.registers.proofs.nametable_use.Reads as registers-nametable-use
 use Rattle.registers.proofs.unlocked.Reads as registers-unlocked
@@ -79,24 +80,23 @@ use Rattle.state.proofs.sizes.ram_taken.Reads as state-ram-taken
 use Rattle.state.proofs.sizes.lengths_ok.Reads as state-lengths-ok
 use Rattle.cpu.proofs.chosen.choose.Reads as cpu-choose
 use Rattle.cpu.proofs.chosen.ppu_after.Reads as cpu-ppu-after
+use Rattle.cpu.proofs.chosen.set_changed.Reads as cpu-set-changed
 use Rattle.cpu.proofs.groups.split_after.Reads as cpu-split-after
 use Rattle.cpu.proofs.groups.irq_after.Reads as cpu-irq-after
 use Rattle.cpu.proofs.groups.is_within.Reads as cpu-is-within
 use Rattle.cpu.proofs.groups.prg_banks_after.Reads as cpu-prg-banks-after
 use Rattle.cpu.proofs.groups.chr_banks_after.Reads as cpu-chr-banks-after
+use Rattle.cpu.proofs.ppu_registers.status_after.Reads as cpu-status-after
+use Rattle.cpu.proofs.ppu_registers.detector_after.Reads as cpu-detector-after
 use Rattle.cpu.proofs.reads.page_answer.Reads as cpu-page-answer
 use Rattle.cpu.proofs.reads.register_or.Reads as cpu-register-or
 use Rattle.cpu.proofs.reads.irq_read.Reads as cpu-irq-read
-use Rattle.cpu.proofs.reads.answer_at.Reads as cpu-answer-at
 use Rattle.cpu.proofs.reads.audio_read.Reads as cpu-audio-read
 use Rattle.cpu.proofs.writes.maps_prg.Reads as cpu-maps-prg
 use Rattle.cpu.proofs.writes.maps_chr.Reads as cpu-maps-chr
-use Rattle.cpu.proofs.writes.prg_pages_after.Reads as cpu-prg-pages-after
 use Rattle.cpu.proofs.writes.chr_pages_after.Reads as cpu-chr-pages-after
-use Rattle.cpu.proofs.writes.register_written.Reads as cpu-register-written
 use Rattle.cpu.proofs.writes.latch.Reads as cpu-latch
 use Rattle.cpu.proofs.writes.prg_word_at.Reads as cpu-prg-word-at
-use Rattle.cpu.proofs.writes.cpu_write.Reads as cpu-cpu-write
 use Rattle.cpu.proofs.writes.audio_write.Reads as cpu-audio-write
 use Rattle.ppu.proofs.fetches.ppu_seen.Reads as ppu-ppu-seen
 use Rattle.ppu.proofs.fetches.split_seen.Reads as ppu-split-seen
@@ -132,6 +132,7 @@ pub record Answers : Type 0 where
 
 pub record Registers : Type 0 where
   pub new : Result registers-new.Learnt
+  pub reset : Result registers-reset.Learnt
   pub attribute-use : Result registers-attribute-use.Learnt
   pub nametable-use : Result registers-nametable-use.Learnt
   pub unlocked : Result registers-unlocked.Learnt
@@ -200,24 +201,23 @@ pub record State : Type 0 where
 pub record Cpu : Type 0 where
   pub choose : Result cpu-choose.Learnt
   pub ppu-after : Result cpu-ppu-after.Learnt
+  pub set-changed : Result cpu-set-changed.Learnt
   pub split-after : Result cpu-split-after.Learnt
   pub irq-after : Result cpu-irq-after.Learnt
   pub is-within : Result cpu-is-within.Learnt
   pub prg-banks-after : Result cpu-prg-banks-after.Learnt
   pub chr-banks-after : Result cpu-chr-banks-after.Learnt
+  pub status-after : Result cpu-status-after.Learnt
+  pub detector-after : Result cpu-detector-after.Learnt
   pub page-answer : Result cpu-page-answer.Learnt
   pub register-or : Result cpu-register-or.Learnt
   pub irq-read : Result cpu-irq-read.Learnt
-  pub answer-at : Result cpu-answer-at.Learnt
   pub audio-read : Result cpu-audio-read.Learnt
   pub maps-prg : Result cpu-maps-prg.Learnt
   pub maps-chr : Result cpu-maps-chr.Learnt
-  pub prg-pages-after : Result cpu-prg-pages-after.Learnt
   pub chr-pages-after : Result cpu-chr-pages-after.Learnt
-  pub register-written : Result cpu-register-written.Learnt
   pub latch : Settles cpu-latch.Learnt (λ κ a r e. now (e .0))
   pub prg-word-at : Result cpu-prg-word-at.Learnt
-  pub cpu-write : Settles cpu-cpu-write.Learnt (λ κ a r e. beside r (memLeft [] (e .1)))
   pub audio-write : Result cpu-audio-write.Learnt
 
 pub record Ppu : Type 0 where

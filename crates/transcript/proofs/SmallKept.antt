@@ -17,7 +17,7 @@ use Rattle.answers.specs.declared.Refusal.{Refusal}
 use Rattle.answers.specs.declared.Refusal.the-variants.{Audio, Counter, State as Broken}
 use Rattle.answers.proofs.NumberLaws.{numbered}
 use Rattle.registers.specs.declared.Regs.{Regs}
-use Rattle.registers.specs.Registers.{attributeUse, nametableUse, written}
+use Rattle.registers.specs.Registers.{attributeUse, nametableUse, written, resetRegs}
 use Rattle.scanline.specs.declared.Detector.{Detector}
 use Rattle.scanline.specs.Fetches.{countedAt, nameAt}
 use Rattle.scanline.specs.Ranges.{counterRefused}
@@ -34,11 +34,12 @@ use Rattle.state.specs.With.{withIrq, withPpu}
 use Rattle.cpu.specs.Groups.{within, splitAfter, irqAfter, prgBanksAfter, chrBanksAfter}
 use Rattle.cpu.specs.Reads.{irqRead, audioRead}
 use Rattle.cpu.specs.Writes.{registerWritten, latched, cpuStored, audioWrite}
+use Rattle.cpu.specs.PpuRegisters.{statusAfter, detectorAfter}
 use Rattle.ppu.specs.Fetches.{splitSeen}
 use Rattle.board.specs.declared.Outcome.{Outcome}
 use Rattle.board.specs.CpuSide.{cpuRead, cpuWrite}
 use Rattle.board.specs.Outcomes.{refused, After, afterOf, behind}
-use Rattle.board.specs.Whole.{resetRegs, resetCall, clockCall, statusTold, detectorTold, ppuRegisterCall}
+use Rattle.board.specs.Whole.{resetCall, clockCall, ppuRegisterCall}
 use Rattle.board_ppu.specs.Fetch.{countedIrq, countedPpu, countedSplit, countedCall, patternPpu, patternCall, ppuFetch}
 use Rattle.board_ppu.specs.Peeks.{chrAnswer, ppuWrite}
 use Rattle.trace.specs.declared.Call.{Call}
@@ -171,15 +172,15 @@ reset-small s h =
     pick-keeps SmallOut (not (inRange s)) (refused-small s Broken h)
     (omega arith, record { regs = g; split = h .split; line = h .line; prg-banks = h .prg-banks; chr-banks = h .chr-banks })
 
-told-small : (d : Detector) (a v : ℕ) → SmallLine d → SmallLine (detectorTold d a v)
-unfolding detectorTold
+told-small : (d : Detector) (a v : ℕ) → SmallLine d → SmallLine (detectorAfter d a v)
+unfolding detectorAfter
 told-small d a v h = pick-keeps SmallLine (eqb a 0x2001 && dark v) h h
 
 ppu-register-small : (s : State) (a v : ℕ) → SmallState s → SmallOut (ppuRegisterCall s a v)
 unfolding ppuRegisterCall
 ppu-register-small s a v h =
     pick-keeps SmallOut (not (inRange s)) (refused-small s Broken h)
-    (omega arith, with-irq (withPpu s (statusTold (s .ppu) a v)) (detectorTold (s .irq) a v) (told-small (s .irq) a v (h .line)) h)
+    (omega arith, with-irq (withPpu s (statusAfter (s .ppu) a v)) (detectorAfter (s .irq) a v) (told-small (s .irq) a v (h .line)) h)
 
 irq-read-small : (d : Detector) (a : ℕ) → SmallLine d → SmallLine (irqRead d a)
 unfolding irqRead

@@ -7,6 +7,7 @@ ghost use Rattle.banks.specs.Placed.{placed};
 ghost use Rattle.text.specs.Sheet.{sheet, textWritten};
 ghost use Rattle.transcript.specs.Cartridge.{printedOver, transcript};
 use crate::printed;
+use board::loads::Settings;
 use registers::Mirroring;
 
 // A ROM whose bytes count its pages, from a first one on.
@@ -35,7 +36,11 @@ fn print_over(
     ensures { λ r. ⌜ sheet (now (out .exit)) r ≡ textWritten (sheet (now (out .entry)) 0)
         (printedOver (now (trace .entry)) (memOf (now (prg .entry)) (now (chr .entry)) (now (ram .entry)) (now (ciram .entry)) (now (exram .entry))) (now (log .entry))) ⌝ }
 {
-    let loaded = board::loads::load(prg, chr, ram, ciram, exram, false, Mirroring::Horizontal);
+    let settings = Settings {
+        chr_writable: false,
+        mirroring: Mirroring::Horizontal,
+    };
+    let loaded = board::loads::load(prg, chr, ram, ciram, exram, settings);
     let s = loaded.state;
     let played = player::replay(s, trace, prg, chr, ram, ciram, exram, log);
     let ending = played.ending;

@@ -12,10 +12,10 @@ use Rattle.banks.proofs.chr.map_chr.Statement.{statement}
 use Rattle.banks.proofs.chr.map_chr.Tie as tie
 
 abbrev Inv-loop : tie.InvT-loop
-Inv-loop chr-len chr-writable regs banks background next₀ k₀ next k = (k ≤ 8) × (next ≡ placed next₀ 0 (λ (j : ℕ). chrWindow Chr chr-len (chrNumber regs banks background j) chr-writable) k)
+Inv-loop lengths regs banks background next₀ k₀ next k = (k ≤ 8) × (next ≡ placed next₀ 0 (λ (j : ℕ). chrWindow Chr (lengths .chr) (chrNumber regs banks background j) (lengths .«chr_writable»)) k)
 
 abbrev μ-loop : tie.MeasureT-loop
-μ-loop chr-len chr-writable regs banks background next₀ k₀ next k = 8 - k
+μ-loop lengths regs banks background next₀ k₀ next k = 8 - k
 
 loop-holds : tie.Need-loop-holds Inv-loop μ-loop
 loop-holds c = (search needs, placed-none _ _ _)

@@ -1,7 +1,6 @@
 -- Five windows, one after another: `windows-next`.
 use Prim.Native.Nat.{_-_, _≤_}
 use mathlib.Core.Path.{_≡_, _∙_, refl}
-use mathlib.Core.Path.{_≡_, refl}
 use native.Mathlib.Omega.{arith}
 use borrow.Author.Needs.{needs}
 use Rattle.banks.specs.Prg.{windowsMapped}
@@ -10,10 +9,10 @@ use Rattle.banks.proofs.prg.map_prg.Statement.{statement}
 use Rattle.banks.proofs.prg.map_prg.Tie as tie
 
 abbrev Inv-loop : tie.InvT-loop
-Inv-loop prg-len ram-len unlocked mode shows next₀ i₀ next i = (i ≤ 5) × (next ≡ windowsMapped prg-len ram-len unlocked shows next₀ i)
+Inv-loop lengths unlocked mode shows next₀ i₀ next i = (i ≤ 5) × (next ≡ windowsMapped (lengths .prg) (lengths .ram) unlocked shows next₀ i)
 
 abbrev μ-loop : tie.MeasureT-loop
-μ-loop prg-len ram-len unlocked mode shows next₀ i₀ next i = 5 - i
+μ-loop lengths unlocked mode shows next₀ i₀ next i = 5 - i
 
 loop-holds : tie.Need-loop-holds Inv-loop μ-loop
 unfolding windowsMapped

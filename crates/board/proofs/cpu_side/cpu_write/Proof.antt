@@ -1,6 +1,8 @@
--- The gate, refusal 6, and then what `cpu_write` of the CPU's side says, for the buffers too.
+-- The gate, refusal 6, and then the steps: the bytes first, since no register maps the page that registers are written at (`word-kept`).
 use mathlib.Core.Path.{sym, ap, _∙_}
 use borrow.Author.Needs.{needs}
+use Rattle.cpu.specs.Writes.{cpuStored}
+use Rattle.steps.proofs.Idle.{word-kept}
 use Rattle.board.specs.CpuSide.{cpuWrite}
 use Rattle.board.specs.Outcomes.{afterOf}
 use Rattle.state.proofs.GateLaws.{open-in-range, range-lengths}
@@ -22,28 +24,30 @@ returns-2 c =
       c .refuse2 .ensures,
     )
 
-cpu-write-requires : tie.Need-cpu-write-requires
-cpu-write-requires c κs =
-    let at-enum-told = c .before .before .before .before .before .before in
+register-written-requires : tie.Need-register-written-requires
+register-written-requires c κs =
+    let at-enum-told = c .before .before .before .before .before .before .before .before .before .before .before .before .before .before .before .before .before in
     range-lengths _ (open-in-range _ _ _ _ _ _ (sym (at-enum-told .before .before .passed .ensures) ∙ at-enum-told .enum-told .given .1))
 
 returns-3 : tie.Need-returns-3
-unfolding cpuWrite
+unfolding cpuWrite cpuStored
 returns-3 c =
-    let at-cpu-write = c .before .before .before .before .before .before .before .before in
-    let at-if1 = at-cpu-write .before .before .before .before .before in
+    let at-store = c .before .before .before .before .before .before .before .before .before in
+    let at-if1 = at-store .before .before .before .before .before .before .before in
     rw (
       ← at-if1 .before .before .before .before .passed .ensures,
       at-if1 .before .before .enum-told .given .1,
       ← at-if1 .before .audio-write .ensures,
       at-if1 .if1 .left,
-      at-cpu-write .cpu-write .ensures .0,
-    ) (ap (afterOf _) (at-cpu-write .cpu-write .ensures .1 _))
+      c .register-written .ensures,
+      word-kept _ _ _,
+      ← at-store .before .before .before .before .before .prg-word-at .ensures,
+    ) (ap (afterOf _) (at-store .store .ensures _))
 
 pub cpu-write-spec : {M : Type 1} → statement M
 cpu-write-spec =
     tie.close
     (tie.spec
     (λ c κs. search needs) (λ c. search needs) (λ c κs. search needs) returns (λ c. search needs) (λ c κs. search needs)
-    (λ c κs. search needs) returns-2 cpu-write-requires (λ c. search needs) (λ c. search needs) (λ c. search needs) (λ c. search needs)
-    returns-3)
+    (λ c κs. search needs) returns-2 (λ c κs. search needs) (λ c κs. search needs) register-written-requires (λ c. search needs)
+    (λ c. search needs) (λ c. search needs) (λ c. search needs) returns-3)

@@ -69,7 +69,7 @@ cast-t23 c =
 loaded-requires : tie.Need-loaded-requires
 loaded-requires c κs =
     let at-if1 = c .before .before .before .before in
-    lengths-hold _ _ _ _ _ (at-if1 .before .before .before .before .before .before .before .args .chr-writable)
+    lengths-hold _ _ _ _ _ (at-if1 .before .before .before .before .before .before .before .args .settings .«chr_writable»)
     (sym (at-if1 .before .prg-taken .ensures) ∙ not-false _ (at-if1 .if1 .left))
     (sym (c .before .before .before .chr-taken .ensures) ∙ not-false _ (c .before .before .if2 .left))
     (sym (c .before .ram-taken .ensures) ∙ not-false _ (c .if3 .left))

@@ -14,8 +14,8 @@ returns-2 c =
     rw (
       ← c .before .before .before .in-range .ensures,
       c .before .before .if1 .left,
-      c .before .status-told .ensures,
-      c .detector-told .ensures,
+      c .before .status-after .ensures,
+      c .detector-after .ensures,
     )
 
 pub ppu-register-spec : {M : Type 1} → statement M

@@ -10,7 +10,7 @@ returns c = rw (← c .before .before .in-range .ensures, c .before .if1 .taken)
 
 returns-2 : tie.Need-returns-2
 unfolding resetCall
-returns-2 c = rw (← c .before .before .before .in-range .ensures, c .before .before .if1 .left)
+returns-2 c = rw (← c .before .before .in-range .ensures, c .before .if1 .left, c .reset .ensures)
 
 pub reset-spec : {M : Type 1} → statement M
-reset-spec = tie.close (tie.spec (λ c κs. search needs) (λ c κs. search needs) returns returns-2)
+reset-spec = tie.close (tie.spec (λ c κs. search needs) (λ c κs. search needs) returns (λ c κs. search needs) returns-2)

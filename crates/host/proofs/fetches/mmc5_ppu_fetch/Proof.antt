@@ -2,7 +2,7 @@
 use mathlib.Core.Bool.{true, false}
 use mathlib.Core.Path.{sym, _∙_}
 use Rattle.memory.specs.Bytes.{memOf}
-use Rattle.arms.proofs.Made.{fetch-refused}
+use Rattle.board_ppu.proofs.Made.{fetch-refused}
 use Rattle.promises.proofs.Promised.{who-is-refused}
 use Rattle.words.specs.Words.{wordsAt, stateOf}
 use Rattle.host.proofs.FastLaws.{shut-left, refused-left, open-sound, opened}

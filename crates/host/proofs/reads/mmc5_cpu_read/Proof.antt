@@ -1,7 +1,7 @@
 -- A shut gate and an audio register are refused and leave the words; else only the detector changes.
 use mathlib.Core.Path.{sym, _∙_}
 use Rattle.memory.specs.Bytes.{memOf}
-use Rattle.arms.proofs.Made.{read-refused}
+use Rattle.board_ppu.proofs.Made.{read-refused}
 use Rattle.promises.proofs.Promised.{who-is-refused}
 use Rattle.words.specs.Words.{wordsAt, stateOf}
 use Rattle.host.proofs.FastLaws.{shut-left, refused-left, open-sound, opened, irq-left, read-done}

@@ -16,8 +16,8 @@ use Rattle.board_ppu.specs.Fetch.{patternPages}
 use Rattle.board_ppu.specs.Peeks.{chrAnswer}
 use Rattle.trace.specs.declared.Found.the-variants.{Record}
 use Rattle.trace.specs.Records.{recordAt}
-use Rattle.arms.proofs.Idle.{prgLeft, restLeft, write-idle, write-prg, write-rest}
-use Rattle.arms.proofs.Made.{pages-changed, pages-same}
+use Rattle.steps.proofs.Idle.{prgLeft, restLeft, write-idle, write-prg, write-rest}
+use Rattle.board_ppu.proofs.Made.{pages-changed, pages-same}
 use Rattle.player.specs.Replay.{played}
 use Rattle.player.proofs.Arms.{going-ranged, clock-arm, reset-arm, read-stop, read-arm, register-arm, write-stop, write-arm}
 use Rattle.player.proofs.Arms.{fetch-stop, counted-arm, other-arm, ppu-write-arm}
@@ -159,8 +159,8 @@ loop-again-6 : tie.Need-loop-again-6 Inv-loop μ-loop
 loop-again-6 c =
     let w = c .before .before .log-record6 in let d = c .before .before .before .before in let p = d .before .before in
     let r = c .before .before .before .before .before .before .before .before .before .before .before in
-    register-arm (going r) (stands r) (p .status-told .result) (d .detector-told .result) (p .before .before .before .call3 .given .1)
-    (p .status-told .ensures) (d .detector-told .ensures) (w .last .0) (w .ensures)
+    register-arm (going r) (stands r) (p .status-after .result) (d .detector-after .result) (p .before .before .before .call3 .given .1)
+    (p .status-after .ensures) (d .detector-after .ensures) (w .last .0) (w .ensures)
 
 -- A PPU fetch: past the test for the line counter, and a counted one.
 abbrev fetch-found : tie.Else5 Inv-loop μ-loop → Found
@@ -220,8 +220,8 @@ loop-again-8 c =
 -- A reset.
 loop-again-9 : tie.Need-loop-again-9 Inv-loop μ-loop
 loop-again-9 c =
-    let w = c .before .before .log-record9 in let r = c .before .before .before .before .before .before .before .before .before in
-    reset-arm (going r) (stands r) (c .before .before .before .before .before .before .before .enum-told3 .given .1) (w .last .0) (w .ensures)
+    let w = c .before .before .log-record9 in let g = c .before .before .before .before .before .reset in let r = c .before .before .before .before .before .before .before .before .before in
+    reset-arm (going r) (stands r) (g .result) (c .before .before .before .before .before .before .before .enum-told3 .given .1) (g .ensures) (w .last .0) (w .ensures)
 
 -- A PPU write.
 abbrev poked : tie.After-log-record-arg15 Inv-loop μ-loop → tie.After-store2 Inv-loop μ-loop
@@ -273,7 +273,7 @@ play-spec =
     (λ c κs. search needs) (λ c κs. search needs) (λ c κs. search needs) (λ c. search needs) (λ c. search needs) (λ c κs. search needs)
     (λ c κs. few (going (other-found (set-shown c)))) (λ c. one-more (going (other-found (set-shown (c .before .before .before)))))
     (λ c. nearer _ _ _ _ (stands (other-found (set-shown (c .before .before .before))))) loop-again-8
-    (λ c. search needs) (λ c κs. few (going (c .before .before .before .before .before .before)))
+    (λ c. search needs) (λ c κs. search needs) (λ c κs. few (going (c .before .before .before .before .before .before)))
     (λ c. one-more (going (c .before .before .before .before .before .before .before .before .before)))
     (λ c. nearer _ _ _ _ (stands (c .before .before .before .before .before .before .before .before .before))) loop-again-9
     (λ c. search needs) (λ c. search needs) (λ c. search needs) (λ c. search needs) (λ c κs. search needs)

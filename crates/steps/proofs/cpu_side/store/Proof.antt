@@ -1,0 +1,13 @@
+-- ExRAM's own way, then the page.
+use borrow.Author.Needs.{needs}
+use Rattle.steps.proofs.cpu_side.store.Statement.{statement}
+use Rattle.steps.proofs.cpu_side.store.Tie as tie
+
+returns : tie.Need-returns
+returns c = rw (← c .before .before .before .before .before .before .before .before .before .before .before .before .before .before .before .latch .ensures) (c .before .before .before .before .before .before .before .before .store .ensures)
+
+pub store-spec : {M : Type 1} → statement M
+store-spec =
+    tie.close
+    (tie.spec
+    (λ c κs. search needs) (λ c κs. search needs) (λ c. search needs) (λ c. search needs) (λ c. search needs) (λ c. search needs) returns)
