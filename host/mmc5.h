@@ -8,15 +8,13 @@
 #include <stddef.h>
 #include <stdint.h>
 
-/* The state: 248 bytes that the host lends to each call and keeps between calls. All zero is a state that is not loaded. */
+#ifdef __cplusplus
+extern "C" {
+#endif
+
+/* The state: 144 words, 288 bytes, that the host lends to each call and keeps between calls. All zero is a state that is not loaded. */
 typedef struct mmc5_state {
-    uint32_t wide[6];
-    uint16_t prg_pages[64];
-    uint16_t chr_pages[16];
-    uint16_t halves[5];
-    uint8_t bytes[33];
-    uint8_t prg_banks[5];
-    uint8_t chr_banks[16];
+    uint16_t words[144];
 } mmc5_state;
 
 /* The five buffers. PRG-ROM is only read. */
@@ -47,13 +45,7 @@ typedef struct mmc5_memory {
 #define MMC5_LOGGED(log, n) ((uint32_t)(log)[2 * (n)] << 8 | (log)[2 * (n) + 1])
 
 uint32_t mmc5_load(
-    uint8_t bytes[33],
-    uint16_t halves[5],
-    uint32_t wide[6],
-    uint8_t prg_banks[5],
-    uint8_t chr_banks[16],
-    uint16_t prg_pages[64],
-    uint16_t chr_pages[16],
+    uint16_t words[144],
     const uint8_t *prg,
     size_t prg_len,
     const uint8_t *chr,
@@ -67,13 +59,7 @@ uint32_t mmc5_load(
     uint8_t chr_writable,
     uint8_t mirroring);
 uint32_t mmc5_cpu_read(
-    uint8_t bytes[33],
-    uint16_t halves[5],
-    uint32_t wide[6],
-    uint8_t prg_banks[5],
-    uint8_t chr_banks[16],
-    uint16_t prg_pages[64],
-    uint16_t chr_pages[16],
+    uint16_t words[144],
     const uint8_t *prg,
     size_t prg_len,
     const uint8_t *chr,
@@ -86,13 +72,7 @@ uint32_t mmc5_cpu_read(
     size_t exram_len,
     uint16_t addr);
 uint32_t mmc5_cpu_peek(
-    const uint8_t bytes[33],
-    const uint16_t halves[5],
-    const uint32_t wide[6],
-    const uint8_t prg_banks[5],
-    const uint8_t chr_banks[16],
-    const uint16_t prg_pages[64],
-    const uint16_t chr_pages[16],
+    const uint16_t words[144],
     const uint8_t *prg,
     size_t prg_len,
     const uint8_t *chr,
@@ -105,13 +85,7 @@ uint32_t mmc5_cpu_peek(
     size_t exram_len,
     uint16_t addr);
 uint32_t mmc5_cpu_write(
-    uint8_t bytes[33],
-    uint16_t halves[5],
-    uint32_t wide[6],
-    uint8_t prg_banks[5],
-    uint8_t chr_banks[16],
-    uint16_t prg_pages[64],
-    uint16_t chr_pages[16],
+    uint16_t words[144],
     const uint8_t *prg,
     size_t prg_len,
     uint8_t *chr,
@@ -125,13 +99,7 @@ uint32_t mmc5_cpu_write(
     uint16_t addr,
     uint8_t val);
 uint32_t mmc5_ppu_fetch(
-    uint8_t bytes[33],
-    uint16_t halves[5],
-    uint32_t wide[6],
-    uint8_t prg_banks[5],
-    uint8_t chr_banks[16],
-    uint16_t prg_pages[64],
-    uint16_t chr_pages[16],
+    uint16_t words[144],
     const uint8_t *prg,
     size_t prg_len,
     const uint8_t *chr,
@@ -144,13 +112,7 @@ uint32_t mmc5_ppu_fetch(
     size_t exram_len,
     uint16_t addr);
 uint32_t mmc5_ppu_peek(
-    const uint8_t bytes[33],
-    const uint16_t halves[5],
-    const uint32_t wide[6],
-    const uint8_t prg_banks[5],
-    const uint8_t chr_banks[16],
-    const uint16_t prg_pages[64],
-    const uint16_t chr_pages[16],
+    const uint16_t words[144],
     const uint8_t *prg,
     size_t prg_len,
     const uint8_t *chr,
@@ -163,13 +125,7 @@ uint32_t mmc5_ppu_peek(
     size_t exram_len,
     uint16_t addr);
 uint32_t mmc5_sprite_peek(
-    const uint8_t bytes[33],
-    const uint16_t halves[5],
-    const uint32_t wide[6],
-    const uint8_t prg_banks[5],
-    const uint8_t chr_banks[16],
-    const uint16_t prg_pages[64],
-    const uint16_t chr_pages[16],
+    const uint16_t words[144],
     const uint8_t *prg,
     size_t prg_len,
     const uint8_t *chr,
@@ -182,13 +138,7 @@ uint32_t mmc5_sprite_peek(
     size_t exram_len,
     uint16_t addr);
 uint32_t mmc5_ppu_write(
-    uint8_t bytes[33],
-    uint16_t halves[5],
-    uint32_t wide[6],
-    uint8_t prg_banks[5],
-    uint8_t chr_banks[16],
-    uint16_t prg_pages[64],
-    uint16_t chr_pages[16],
+    uint16_t words[144],
     const uint8_t *prg,
     size_t prg_len,
     uint8_t *chr,
@@ -201,74 +151,15 @@ uint32_t mmc5_ppu_write(
     size_t exram_len,
     uint16_t addr,
     uint8_t val);
-uint32_t mmc5_ppu_register(
-    uint8_t bytes[33],
-    uint16_t halves[5],
-    uint32_t wide[6],
-    uint8_t prg_banks[5],
-    uint8_t chr_banks[16],
-    uint16_t prg_pages[64],
-    uint16_t chr_pages[16],
-    uint16_t addr,
-    uint8_t val);
-uint32_t mmc5_clock(
-    uint8_t bytes[33],
-    uint16_t halves[5],
-    uint32_t wide[6],
-    uint8_t prg_banks[5],
-    uint8_t chr_banks[16],
-    uint16_t prg_pages[64],
-    uint16_t chr_pages[16]);
-uint32_t mmc5_reset(
-    uint8_t bytes[33],
-    uint16_t halves[5],
-    uint32_t wide[6],
-    uint8_t prg_banks[5],
-    uint8_t chr_banks[16],
-    uint16_t prg_pages[64],
-    uint16_t chr_pages[16]);
-uint32_t mmc5_mirroring(
-    const uint8_t bytes[33],
-    const uint16_t halves[5],
-    const uint32_t wide[6],
-    const uint8_t prg_banks[5],
-    const uint8_t chr_banks[16],
-    const uint16_t prg_pages[64],
-    const uint16_t chr_pages[16]);
-uint32_t mmc5_interrupt(
-    const uint8_t bytes[33],
-    const uint16_t halves[5],
-    const uint32_t wide[6],
-    const uint8_t prg_banks[5],
-    const uint8_t chr_banks[16],
-    const uint16_t prg_pages[64],
-    const uint16_t chr_pages[16]);
-uint32_t mmc5_cpu_entry(
-    const uint8_t bytes[33],
-    const uint16_t halves[5],
-    const uint32_t wide[6],
-    const uint8_t prg_banks[5],
-    const uint8_t chr_banks[16],
-    const uint16_t prg_pages[64],
-    const uint16_t chr_pages[16],
-    uint16_t addr);
-uint32_t mmc5_ppu_entry(
-    const uint8_t bytes[33],
-    const uint16_t halves[5],
-    const uint32_t wide[6],
-    const uint8_t prg_banks[5],
-    const uint8_t chr_banks[16],
-    const uint16_t prg_pages[64],
-    const uint16_t chr_pages[16],
-    uint16_t addr);
+uint32_t mmc5_ppu_register(uint16_t words[144], uint16_t addr, uint8_t val);
+uint32_t mmc5_clock(uint16_t words[144]);
+uint32_t mmc5_reset(uint16_t words[144]);
+uint32_t mmc5_mirroring(const uint16_t words[144]);
+uint32_t mmc5_interrupt(const uint16_t words[144]);
+uint32_t mmc5_cpu_entry(const uint16_t words[144], uint16_t addr);
+uint32_t mmc5_ppu_entry(const uint16_t words[144], uint16_t addr);
 uint32_t mmc5_cpu_page(
-    const uint8_t bytes[33],
-    const uint16_t halves[5],
-    const uint32_t wide[6],
-    const uint8_t prg_banks[5],
-    const uint8_t chr_banks[16],
-    const uint16_t prg_pages[64],
-    const uint16_t chr_pages[16],
+    const uint16_t words[144],
     const uint8_t *prg,
     size_t prg_len,
     const uint8_t *chr,
@@ -283,13 +174,7 @@ uint32_t mmc5_cpu_page(
     uint8_t *out,
     size_t out_len);
 uint32_t mmc5_ppu_page(
-    const uint8_t bytes[33],
-    const uint16_t halves[5],
-    const uint32_t wide[6],
-    const uint8_t prg_banks[5],
-    const uint8_t chr_banks[16],
-    const uint16_t prg_pages[64],
-    const uint16_t chr_pages[16],
+    const uint16_t words[144],
     const uint8_t *prg,
     size_t prg_len,
     const uint8_t *chr,
@@ -304,13 +189,7 @@ uint32_t mmc5_ppu_page(
     uint8_t *out,
     size_t out_len);
 uint32_t mmc5_replay(
-    uint8_t bytes[33],
-    uint16_t halves[5],
-    uint32_t wide[6],
-    uint8_t prg_banks[5],
-    uint8_t chr_banks[16],
-    uint16_t prg_pages[64],
-    uint16_t chr_pages[16],
+    uint16_t words[144],
     const uint8_t *prg,
     size_t prg_len,
     uint8_t *chr,
@@ -328,58 +207,62 @@ uint32_t mmc5_replay(
 
 /* The same over the two structs. */
 static inline uint32_t mmc5_on_load(mmc5_state *s, const mmc5_memory *m, uint8_t chr_writable, uint8_t mirroring) {
-    return mmc5_load(s->bytes, s->halves, s->wide, s->prg_banks, s->chr_banks, s->prg_pages, s->chr_pages, m->prg, m->prg_len, m->chr, m->chr_len, m->ram, m->ram_len, m->ciram, m->ciram_len, m->exram, m->exram_len, chr_writable, mirroring);
+    return mmc5_load(s->words, m->prg, m->prg_len, m->chr, m->chr_len, m->ram, m->ram_len, m->ciram, m->ciram_len, m->exram, m->exram_len, chr_writable, mirroring);
 }
 static inline uint32_t mmc5_on_cpu_read(mmc5_state *s, const mmc5_memory *m, uint16_t addr) {
-    return mmc5_cpu_read(s->bytes, s->halves, s->wide, s->prg_banks, s->chr_banks, s->prg_pages, s->chr_pages, m->prg, m->prg_len, m->chr, m->chr_len, m->ram, m->ram_len, m->ciram, m->ciram_len, m->exram, m->exram_len, addr);
+    return mmc5_cpu_read(s->words, m->prg, m->prg_len, m->chr, m->chr_len, m->ram, m->ram_len, m->ciram, m->ciram_len, m->exram, m->exram_len, addr);
 }
 static inline uint32_t mmc5_on_cpu_peek(const mmc5_state *s, const mmc5_memory *m, uint16_t addr) {
-    return mmc5_cpu_peek(s->bytes, s->halves, s->wide, s->prg_banks, s->chr_banks, s->prg_pages, s->chr_pages, m->prg, m->prg_len, m->chr, m->chr_len, m->ram, m->ram_len, m->ciram, m->ciram_len, m->exram, m->exram_len, addr);
+    return mmc5_cpu_peek(s->words, m->prg, m->prg_len, m->chr, m->chr_len, m->ram, m->ram_len, m->ciram, m->ciram_len, m->exram, m->exram_len, addr);
 }
 static inline uint32_t mmc5_on_cpu_write(mmc5_state *s, const mmc5_memory *m, uint16_t addr, uint8_t val) {
-    return mmc5_cpu_write(s->bytes, s->halves, s->wide, s->prg_banks, s->chr_banks, s->prg_pages, s->chr_pages, m->prg, m->prg_len, m->chr, m->chr_len, m->ram, m->ram_len, m->ciram, m->ciram_len, m->exram, m->exram_len, addr, val);
+    return mmc5_cpu_write(s->words, m->prg, m->prg_len, m->chr, m->chr_len, m->ram, m->ram_len, m->ciram, m->ciram_len, m->exram, m->exram_len, addr, val);
 }
 static inline uint32_t mmc5_on_ppu_fetch(mmc5_state *s, const mmc5_memory *m, uint16_t addr) {
-    return mmc5_ppu_fetch(s->bytes, s->halves, s->wide, s->prg_banks, s->chr_banks, s->prg_pages, s->chr_pages, m->prg, m->prg_len, m->chr, m->chr_len, m->ram, m->ram_len, m->ciram, m->ciram_len, m->exram, m->exram_len, addr);
+    return mmc5_ppu_fetch(s->words, m->prg, m->prg_len, m->chr, m->chr_len, m->ram, m->ram_len, m->ciram, m->ciram_len, m->exram, m->exram_len, addr);
 }
 static inline uint32_t mmc5_on_ppu_peek(const mmc5_state *s, const mmc5_memory *m, uint16_t addr) {
-    return mmc5_ppu_peek(s->bytes, s->halves, s->wide, s->prg_banks, s->chr_banks, s->prg_pages, s->chr_pages, m->prg, m->prg_len, m->chr, m->chr_len, m->ram, m->ram_len, m->ciram, m->ciram_len, m->exram, m->exram_len, addr);
+    return mmc5_ppu_peek(s->words, m->prg, m->prg_len, m->chr, m->chr_len, m->ram, m->ram_len, m->ciram, m->ciram_len, m->exram, m->exram_len, addr);
 }
 static inline uint32_t mmc5_on_sprite_peek(const mmc5_state *s, const mmc5_memory *m, uint16_t addr) {
-    return mmc5_sprite_peek(s->bytes, s->halves, s->wide, s->prg_banks, s->chr_banks, s->prg_pages, s->chr_pages, m->prg, m->prg_len, m->chr, m->chr_len, m->ram, m->ram_len, m->ciram, m->ciram_len, m->exram, m->exram_len, addr);
+    return mmc5_sprite_peek(s->words, m->prg, m->prg_len, m->chr, m->chr_len, m->ram, m->ram_len, m->ciram, m->ciram_len, m->exram, m->exram_len, addr);
 }
 static inline uint32_t mmc5_on_ppu_write(mmc5_state *s, const mmc5_memory *m, uint16_t addr, uint8_t val) {
-    return mmc5_ppu_write(s->bytes, s->halves, s->wide, s->prg_banks, s->chr_banks, s->prg_pages, s->chr_pages, m->prg, m->prg_len, m->chr, m->chr_len, m->ram, m->ram_len, m->ciram, m->ciram_len, m->exram, m->exram_len, addr, val);
+    return mmc5_ppu_write(s->words, m->prg, m->prg_len, m->chr, m->chr_len, m->ram, m->ram_len, m->ciram, m->ciram_len, m->exram, m->exram_len, addr, val);
 }
 static inline uint32_t mmc5_on_ppu_register(mmc5_state *s, uint16_t addr, uint8_t val) {
-    return mmc5_ppu_register(s->bytes, s->halves, s->wide, s->prg_banks, s->chr_banks, s->prg_pages, s->chr_pages, addr, val);
+    return mmc5_ppu_register(s->words, addr, val);
 }
 static inline uint32_t mmc5_on_clock(mmc5_state *s) {
-    return mmc5_clock(s->bytes, s->halves, s->wide, s->prg_banks, s->chr_banks, s->prg_pages, s->chr_pages);
+    return mmc5_clock(s->words);
 }
 static inline uint32_t mmc5_on_reset(mmc5_state *s) {
-    return mmc5_reset(s->bytes, s->halves, s->wide, s->prg_banks, s->chr_banks, s->prg_pages, s->chr_pages);
+    return mmc5_reset(s->words);
 }
 static inline uint32_t mmc5_on_mirroring(const mmc5_state *s) {
-    return mmc5_mirroring(s->bytes, s->halves, s->wide, s->prg_banks, s->chr_banks, s->prg_pages, s->chr_pages);
+    return mmc5_mirroring(s->words);
 }
 static inline uint32_t mmc5_on_interrupt(const mmc5_state *s) {
-    return mmc5_interrupt(s->bytes, s->halves, s->wide, s->prg_banks, s->chr_banks, s->prg_pages, s->chr_pages);
+    return mmc5_interrupt(s->words);
 }
 static inline uint32_t mmc5_on_cpu_entry(const mmc5_state *s, uint16_t addr) {
-    return mmc5_cpu_entry(s->bytes, s->halves, s->wide, s->prg_banks, s->chr_banks, s->prg_pages, s->chr_pages, addr);
+    return mmc5_cpu_entry(s->words, addr);
 }
 static inline uint32_t mmc5_on_ppu_entry(const mmc5_state *s, uint16_t addr) {
-    return mmc5_ppu_entry(s->bytes, s->halves, s->wide, s->prg_banks, s->chr_banks, s->prg_pages, s->chr_pages, addr);
+    return mmc5_ppu_entry(s->words, addr);
 }
 static inline uint32_t mmc5_on_cpu_page(const mmc5_state *s, const mmc5_memory *m, uint16_t addr, uint8_t out[1024]) {
-    return mmc5_cpu_page(s->bytes, s->halves, s->wide, s->prg_banks, s->chr_banks, s->prg_pages, s->chr_pages, m->prg, m->prg_len, m->chr, m->chr_len, m->ram, m->ram_len, m->ciram, m->ciram_len, m->exram, m->exram_len, addr, out, 1024);
+    return mmc5_cpu_page(s->words, m->prg, m->prg_len, m->chr, m->chr_len, m->ram, m->ram_len, m->ciram, m->ciram_len, m->exram, m->exram_len, addr, out, 1024);
 }
 static inline uint32_t mmc5_on_ppu_page(const mmc5_state *s, const mmc5_memory *m, uint16_t addr, uint8_t out[1024]) {
-    return mmc5_ppu_page(s->bytes, s->halves, s->wide, s->prg_banks, s->chr_banks, s->prg_pages, s->chr_pages, m->prg, m->prg_len, m->chr, m->chr_len, m->ram, m->ram_len, m->ciram, m->ciram_len, m->exram, m->exram_len, addr, out, 1024);
+    return mmc5_ppu_page(s->words, m->prg, m->prg_len, m->chr, m->chr_len, m->ram, m->ram_len, m->ciram, m->ciram_len, m->exram, m->exram_len, addr, out, 1024);
 }
 static inline uint32_t mmc5_on_replay(mmc5_state *s, const mmc5_memory *m, const uint8_t *trace, size_t trace_len, uint8_t *log, size_t log_len) {
-    return mmc5_replay(s->bytes, s->halves, s->wide, s->prg_banks, s->chr_banks, s->prg_pages, s->chr_pages, m->prg, m->prg_len, m->chr, m->chr_len, m->ram, m->ram_len, m->ciram, m->ciram_len, m->exram, m->exram_len, trace, trace_len, log, log_len);
+    return mmc5_replay(s->words, m->prg, m->prg_len, m->chr, m->chr_len, m->ram, m->ram_len, m->ciram, m->ciram_len, m->exram, m->exram_len, trace, trace_len, log, log_len);
 }
+
+#ifdef __cplusplus
+}
+#endif
 
 #endif

@@ -1,4 +1,5 @@
 pub mod HostLaws
-pub mod FastLaws
+pub mod CallLaws
 pub mod FetchLaws
+pub mod WriteLaws
 pub mod Promised

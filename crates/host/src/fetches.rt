@@ -1,53 +1,44 @@
-// The PPU fetch, over lent words where they lie: only the groups that it changes are put back, and the CHR table where it is mapped anew.
+// The PPU fetch: only what it can change of the groups is put back, and the CHR table where it is mapped anew.
 ghost use mathlib.Core.Path.{_≡_};
+ghost use mathlib.Core.Bool.{true};
 ghost use Rattle.memory.specs.Bytes.{memOf};
-ghost use Rattle.memory.specs.Words.{pick};
 ghost use Rattle.state.specs.declared.State.{State};
-ghost use Rattle.banks.specs.Chr.{chrMapped};
-ghost use Rattle.cpu.specs.Chosen.{setChanged};
-ghost use Rattle.board_ppu.specs.Fetch.{ppuFetch};
-ghost use Rattle.words.specs.Words.{wordsAt, lengthsOf, regsOf, pagesOf, numbersOf};
+ghost use Rattle.state.specs.Ranges.{inRange};
+ghost use Rattle.state.specs.With.{withChrPages};
+ghost use Rattle.board_ppu.specs.Fetch.{patternPages, ppuFetch};
+ghost use Rattle.host_state.specs.Words.{stateOf, wordsOf};
 ghost use Rattle.host.specs.Hosted.{leftWords, onWords};
 use answers::Answer;
 use answers::Refusal;
+use host_state::gate;
+use host_state::groups;
+use host_state::limits;
+use host_state::read;
+use host_state::tables;
 use state::gate::Gate;
 use steps::ppu_side;
 
 // "mapping only on a change"
-fn map_on_change(
-    before: bool,
-    after: bool,
-    bytes: &[u8; 33],
-    halves: &[u16; 5],
-    wide: &[u32; 6],
-    banks: &[u8; 16],
-    numbers: &mut [u16; 16],
-)
-    ensures { λ _. ⌜ now (numbers .exit)
-        ≡ numbersOf (pick (setChanged before after)
-        (chrMapped (lengthsOf (now (bytes .entry)) (now (wide .entry)) .chr) (lengthsOf (now (bytes .entry)) (now (wide .entry)) .«chr_writable») (regsOf (now (bytes .entry)) (now (halves .entry))) (now (banks .entry)) after (pagesOf (now (numbers .entry))))
-        (pagesOf (now (numbers .entry)))) ⌝ }
+fn map_on_change(before: bool, after: bool, words: &mut [u16; 144])
+    requires { ⌜ (inRange (stateOf (now words)) ≡ true) × (before ≡ stateOf (now words) .ppu .«bg_set») ⌝ }
+    ensures { λ _. ⌜ now (words .exit) ≡ wordsOf (withChrPages (stateOf (now (words .entry))) (patternPages (stateOf (now (words .entry))) after)) ⌝ }
 {
+    limits::sized(*words);
     if !cpu::chosen::set_changed(before, after) {
         return;
     }
-    let lengths = words::read::lengths_of(bytes, wide);
-    let regs = words::read::regs_of(bytes, halves);
-    let shown = words::tables::chr_table(*numbers);
-    let mapped = banks::chr::map_chr(lengths, regs, *banks, after, shown);
-    *numbers = words::tables::chr_numbers(mapped);
+    let lengths = read::lengths_of(words);
+    let regs = read::regs_of(words);
+    let banks = read::chr_banks_of(words);
+    let shown = tables::chr_table(words);
+    let mapped = banks::chr::map_chr(lengths, regs, banks, after, shown);
+    tables::put_chr_table(mapped, words);
 }
 
 // A PPU fetch.
 #[no_mangle]
 pub extern "C" fn mmc5_ppu_fetch(
-    bytes: &mut [u8; 33],
-    halves: &mut [u16; 5],
-    wide: &mut [u32; 6],
-    prg_banks: &mut [u8; 5],
-    chr_banks: &mut [u8; 16],
-    prg_pages: &mut [u16; 64],
-    chr_pages: &mut [u16; 16],
+    words: &mut [u16; 144],
     prg: &[u8],
     chr: &[u8],
     ram: &[u8],
@@ -55,15 +46,11 @@ pub extern "C" fn mmc5_ppu_fetch(
     exram: &[u8],
     addr: u16,
 ) -> u32
-    ensures { λ r. ⌜ leftWords r (wordsAt (now (bytes .exit)) (now (halves .exit)) (now (wide .exit)) (now («prg_banks» .exit)) (now («chr_banks» .exit)) (now («prg_pages» .exit)) (now («chr_pages» .exit))) ≡ onWords (wordsAt (now (bytes .entry)) (now (halves .entry)) (now (wide .entry)) (now («prg_banks» .entry)) (now («chr_banks» .entry)) (now («prg_pages» .entry)) (now («chr_pages» .entry))) (λ (s : State). ppuFetch s (memOf (now (prg .entry)) (now (chr .entry)) (now (ram .entry)) (now (ciram .entry)) (now (exram .entry))) addr) ⌝ }
+    ensures { λ r. ⌜ leftWords r (now (words .exit)) ≡ onWords (now (words .entry)) (λ (s : State). ppuFetch s (memOf (now (prg .entry)) (now (chr .entry)) (now (ram .entry)) (now (ciram .entry)) (now (exram .entry))) addr) ⌝ }
 {
-    words::groups::known(*bytes, *halves, *wide);
-    let gate = words::gate::passed(
-        bytes,
-        halves,
-        wide,
-        prg_pages,
-        chr_pages,
+    limits::sized(*words);
+    let gate = gate::passed(
+        words,
         prg.len(),
         chr.len(),
         ram.len(),
@@ -73,19 +60,19 @@ pub extern "C" fn mmc5_ppu_fetch(
     if let Gate::Shut(refusal) = gate {
         return told::plain(Answer::Refused(refusal));
     }
-    let irq = words::read::detector_of(bytes, halves);
-    let ppu = words::read::status_of(bytes, halves, wide);
+    let irq = read::detector_of(words);
     if scanline::counter_refused(irq, addr) {
         return told::plain(Answer::Refused(Refusal::Counter));
     }
-    let regs = words::read::regs_of(bytes, halves);
-    let vsplit = words::read::split_of(bytes, halves);
+    let ppu = read::status_of(words);
+    let regs = read::regs_of(words);
+    let vsplit = read::split_of(words);
     if scanline::tiles::counted(addr) {
         let counted = ppu_side::count_fetch(regs, irq, ppu, vsplit, addr);
         let seen = counted.irq;
         let status = counted.ppu;
         let region = counted.vsplit;
-        let word = words::tables::chr_word(chr_pages, addr);
+        let word = tables::chr_word(words, addr);
         let answer = ppu_side::counted_answer(
             regs,
             region,
@@ -99,22 +86,14 @@ pub extern "C" fn mmc5_ppu_fetch(
             exram,
             addr,
         );
-        words::groups::put_detector(seen, bytes, halves);
-        words::groups::put_tiles(status, halves, wide);
-        words::groups::put_region(region, bytes, halves);
+        groups::put_detector(seen, words);
+        groups::put_tiles(status, words);
+        groups::put_region(region, words);
         return told::with_interrupt(answer, seen);
     }
     let chosen = ppu_side::chosen_at(ppu, irq.in_frame, addr);
-    map_on_change(
-        ppu.bg_set,
-        chosen.bg_set,
-        bytes,
-        halves,
-        wide,
-        chr_banks,
-        chr_pages,
-    );
-    let word = words::tables::chr_word(chr_pages, addr);
+    map_on_change(ppu.bg_set, chosen.bg_set, words);
+    let word = tables::chr_word(words, addr);
     let answer = ppu_side::other_answer(
         regs,
         vsplit,
@@ -128,6 +107,6 @@ pub extern "C" fn mmc5_ppu_fetch(
         exram,
         addr,
     );
-    words::groups::put_set(chosen, bytes);
+    groups::put_set(chosen, words);
     told::with_interrupt(answer, irq)
 }

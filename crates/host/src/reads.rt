@@ -1,24 +1,22 @@
-// The CPU read, over lent words where they lie: only the detector is put back.
+// The CPU read: only the detector is put back.
 ghost use mathlib.Core.Path.{_≡_};
 ghost use Rattle.memory.specs.Bytes.{memOf};
 ghost use Rattle.state.specs.declared.State.{State};
-ghost use Rattle.words.specs.Words.{wordsAt};
 ghost use Rattle.board.specs.CpuSide.{cpuRead};
 ghost use Rattle.host.specs.Hosted.{leftWords, onWords};
 use answers::Answer;
 use answers::Refusal;
+use host_state::gate;
+use host_state::groups;
+use host_state::limits;
+use host_state::read;
+use host_state::tables;
 use state::gate::Gate;
 
 // A CPU read.
 #[no_mangle]
 pub extern "C" fn mmc5_cpu_read(
-    bytes: &mut [u8; 33],
-    halves: &mut [u16; 5],
-    wide: &mut [u32; 6],
-    prg_banks: &mut [u8; 5],
-    chr_banks: &mut [u8; 16],
-    prg_pages: &mut [u16; 64],
-    chr_pages: &mut [u16; 16],
+    words: &mut [u16; 144],
     prg: &[u8],
     chr: &[u8],
     ram: &[u8],
@@ -26,15 +24,11 @@ pub extern "C" fn mmc5_cpu_read(
     exram: &[u8],
     addr: u16,
 ) -> u32
-    ensures { λ r. ⌜ leftWords r (wordsAt (now (bytes .exit)) (now (halves .exit)) (now (wide .exit)) (now («prg_banks» .exit)) (now («chr_banks» .exit)) (now («prg_pages» .exit)) (now («chr_pages» .exit))) ≡ onWords (wordsAt (now (bytes .entry)) (now (halves .entry)) (now (wide .entry)) (now («prg_banks» .entry)) (now («chr_banks» .entry)) (now («prg_pages» .entry)) (now («chr_pages» .entry))) (λ (s : State). cpuRead s (memOf (now (prg .entry)) (now (chr .entry)) (now (ram .entry)) (now (ciram .entry)) (now (exram .entry))) addr) ⌝ }
+    ensures { λ r. ⌜ leftWords r (now (words .exit)) ≡ onWords (now (words .entry)) (λ (s : State). cpuRead s (memOf (now (prg .entry)) (now (chr .entry)) (now (ram .entry)) (now (ciram .entry)) (now (exram .entry))) addr) ⌝ }
 {
-    words::groups::known(*bytes, *halves, *wide);
-    let gate = words::gate::passed(
-        bytes,
-        halves,
-        wide,
-        prg_pages,
-        chr_pages,
+    limits::sized(*words);
+    let gate = gate::passed(
+        words,
         prg.len(),
         chr.len(),
         ram.len(),
@@ -47,13 +41,27 @@ pub extern "C" fn mmc5_cpu_read(
     if cpu::reads::audio_read(addr) {
         return told::plain(Answer::Refused(Refusal::Audio));
     }
-    let irq = words::read::detector_of(bytes, halves);
-    let word = words::tables::prg_word(prg_pages, addr);
-    let page = cpu::reads::page_answer(prg, chr, ram, ciram, exram, word, addr);
-    let regs = words::read::regs_of(bytes, halves);
-    let vsplit = words::read::split_of(bytes, halves);
-    let answer = cpu::reads::register_or(regs, vsplit, irq, *prg_banks, *chr_banks, addr, page);
+    let irq = read::detector_of(words);
+    let word = tables::prg_word(words, addr);
+    let regs = read::regs_of(words);
+    let vsplit = read::split_of(words);
+    let prg_banks = read::prg_banks_of(words);
+    let chr_banks = read::chr_banks_of(words);
+    let answer = steps::cpu_side::read(
+        regs,
+        vsplit,
+        irq,
+        prg_banks,
+        chr_banks,
+        word,
+        prg,
+        chr,
+        ram,
+        ciram,
+        exram,
+        addr,
+    );
     let after = cpu::reads::irq_read(irq, addr);
-    words::groups::put_detector(after, bytes, halves);
+    groups::put_detector(after, words);
     told::with_interrupt(answer, after)
 }

@@ -8,7 +8,7 @@ use borrow.Author.Tests.{not-false, not-true, eqb-true}
 use lib.Dec.{eqb}
 use lib.ListN.{length, getD, set, length-set}
 use Rattle.memory.proofs.Tests.{and-left, and-right}
-use Rattle.words.proofs.MappedLaws.{Mapped, map-first, map-next, map-last, map-same}
+use Rattle.host_state.proofs.MappedLaws.{Mapped, map-first, map-next, map-last, map-same}
 use Rattle.host_looks.specs.Pages.{copied, copiedOf}
 
 pub record Copying (part start out : List ℕ) (i : ℕ) : Type 0 where
@@ -16,13 +16,13 @@ pub record Copying (part start out : List ℕ) (i : ℕ) : Type 0 where
   pub kept : length out ≡ length start
   pub so-far : Mapped (λ (x : ℕ). x) part out i
 
--- What is asked of the words, the page and the room.
-abbrev pub fits : Bool → List ℕ → List ℕ → Bool
-fits good part start = good && (eqb (length part) 1024 && eqb (length start) 1024)
+-- What is asked of the page and the room.
+abbrev pub fits : List ℕ → List ℕ → Bool
+fits part start = eqb (length part) 1024 && eqb (length start) 1024
 
-pub copy-first : (good : Bool) (part start : List ℕ) → not (fits good part start) ≡ false → Copying part start start 0
-copy-first good part start e =
-    let both = and-right good (eqb (length part) 1024 && eqb (length start) 1024) (not-false (fits good part start) e) in
+pub copy-first : (part start : List ℕ) → not (fits part start) ≡ false → Copying part start start 0
+copy-first part start e =
+    let both = not-false (fits part start) e in
     let p : length part ≡ 1024 = eqb-true _ _ (and-left (eqb (length part) 1024) (eqb (length start) 1024) both) in
     let s : length start ≡ 1024 = eqb-true _ _ (and-right (eqb (length part) 1024) (eqb (length start) 1024) both) in
     record { long = p; kept = refl; so-far = map-first _ part start (s ∙ sym p) }
@@ -34,10 +34,10 @@ copy-next part start out i x c h e =
 copy-last : (part start out : List ℕ) (i : ℕ) → Copying part start out i → 1024 ≤ i → out ≡ part
 copy-last part start out i c h = map-last _ part out i (c .so-far) (omega (arith, c .long)) ∙ map-same part
 
-pub copy-done : (good : Bool) (part start out : List ℕ) (i : ℕ) → not (fits good part start) ≡ false → Copying part start out i → 1024 ≤ i → copiedOf 1024 out ≡ copied good part start
+pub copy-done : (part start out : List ℕ) (i : ℕ) → not (fits part start) ≡ false → Copying part start out i → 1024 ≤ i → copiedOf 1024 out ≡ copied part start
 unfolding copied
-copy-done good part start out i e c h = rw (not-false (fits good part start) e, copy-last part start out i c h)
+copy-done part start out i e c h = rw (not-false (fits part start) e, copy-last part start out i c h)
 
-pub copy-not : (good : Bool) (part start : List ℕ) → not (fits good part start) ≡ true → copiedOf 0 start ≡ copied good part start
+pub copy-not : (part start : List ℕ) → not (fits part start) ≡ true → copiedOf 0 start ≡ copied part start
 unfolding copied
-copy-not good part start e = rw (not-true (fits good part start) e)
+copy-not part start e = rw (not-true (fits part start) e)

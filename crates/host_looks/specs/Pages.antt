@@ -12,8 +12,8 @@ use Rattle.answers.specs.declared.Answer.the-variants.{Refused}
 use Rattle.answers.specs.declared.Refusal.the-variants.{State as StateBroken}
 use Rattle.answers.specs.Letters.{letterOf, valueOf}
 use Rattle.state.specs.declared.State.{State}
-use Rattle.words.specs.Gate.{wordsInRange}
-use Rattle.words.specs.Words.{Words, good, stateOf}
+use Rattle.state.specs.Ranges.{inRange}
+use Rattle.host_state.specs.Words.{stateOf}
 
 -- Blank, or a buffer.
 abbrev pub sourceNumber : Src → ℕ
@@ -36,9 +36,9 @@ entryNumber p = sourceNumber (p .src) * 65536 + withinBuffer (p .index) (p .writ
 abbrev pub noEntry : ℕ
 noEntry = letterOf (Refused StateBroken) * 65536 + valueOf (Refused StateBroken)
 
--- The entry that is told of words that are a state in range.
-unfoldable pub entryOn : Words → (State → Page) → ℕ
-entryOn w f = pick (wordsInRange w) (entryNumber (f (stateOf w))) noEntry
+-- The entry that is told of words that stand for a state in range.
+unfoldable pub entryOn : List ℕ → (State → Page) → ℕ
+entryOn w f = pick (inRange (stateOf w)) (entryNumber (f (stateOf w))) noEntry
 
 -- A copy: how many bytes, and what they are copied to.
 pub record Copied : Type 0 where
@@ -49,8 +49,8 @@ abbrev pub copiedOf : ℕ → List ℕ → Copied
 copiedOf n l = record { count = n; bytes = l }
 
 -- 1,024 bytes are copied, from a whole page to a buffer of just so many; else none, and the buffer stays.
-unfoldable pub copied : Bool → List ℕ → List ℕ → Copied
-copied good part out = pick (good && (eqb (length part) 1024 && eqb (length out) 1024)) (copiedOf 1024 part) (copiedOf 0 out)
+unfoldable pub copied : List ℕ → List ℕ → Copied
+copied part out = pick (eqb (length part) 1024 && eqb (length out) 1024) (copiedOf 1024 part) (copiedOf 0 out)
 
-unfoldable pub copyOn : Words → (State → List ℕ) → List ℕ → Copied
-copyOn w f out = copied (good (w .bytes)) (f (stateOf w)) out
+unfoldable pub copyOn : List ℕ → (State → List ℕ) → List ℕ → Copied
+copyOn w f out = copied (f (stateOf w)) out

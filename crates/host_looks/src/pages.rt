@@ -6,8 +6,10 @@ ghost use Rattle.state.specs.declared.State.{State};
 ghost use Rattle.cpu.specs.Writes.{prgWordAt};
 ghost use Rattle.board_ppu.specs.Peeks.{chrWordAt};
 ghost use Rattle.views.specs.Views.{cpuView, ppuView};
-ghost use Rattle.words.specs.Words.{wordsAt};
 ghost use Rattle.host_looks.specs.Pages.{withinBuffer, entryNumber, noEntry, entryOn, copied, copiedOf, copyOn};
+use host_state::gate;
+use host_state::tables;
+use host_state::whole;
 use memory::CpuAddr;
 use memory::Page;
 use memory::PpuAddr;
@@ -49,50 +51,32 @@ fn entry_number(page: Page) -> u32
 
 // The PRG table's entry at a CPU address.
 #[no_mangle]
-pub extern "C" fn mmc5_cpu_entry(
-    bytes: &[u8; 33],
-    halves: &[u16; 5],
-    wide: &[u32; 6],
-    prg_banks: &[u8; 5],
-    chr_banks: &[u8; 16],
-    prg_pages: &[u16; 64],
-    chr_pages: &[u16; 16],
-    addr: u16,
-) -> u32
-    ensures { λ r. ⌜ r ≡ entryOn (wordsAt (now (bytes .entry)) (now (halves .entry)) (now (wide .entry)) (now («prg_banks» .entry)) (now («chr_banks» .entry)) (now («prg_pages» .entry)) (now («chr_pages» .entry))) (λ (s : State). pageOf (prgWordAt (s .«prg_pages») addr)) ⌝ }
+pub extern "C" fn mmc5_cpu_entry(words: &[u16; 144], addr: u16) -> u32
+    ensures { λ r. ⌜ r ≡ entryOn (now (words .entry)) (λ (s : State). pageOf (prgWordAt (s .«prg_pages») addr)) ⌝ }
 {
-    let good = words::ranges::words_in_range(bytes, halves, wide, prg_pages, chr_pages);
-    let word = words::tables::prg_word(prg_pages, addr);
+    let good = gate::in_range(words);
+    let word = tables::prg_word(words, addr);
     let page = memory::words::page_of(word);
     if_in_range(good, entry_number(page))
 }
 
 // The CHR table's entry at a PPU address.
 #[no_mangle]
-pub extern "C" fn mmc5_ppu_entry(
-    bytes: &[u8; 33],
-    halves: &[u16; 5],
-    wide: &[u32; 6],
-    prg_banks: &[u8; 5],
-    chr_banks: &[u8; 16],
-    prg_pages: &[u16; 64],
-    chr_pages: &[u16; 16],
-    addr: u16,
-) -> u32
-    ensures { λ r. ⌜ r ≡ entryOn (wordsAt (now (bytes .entry)) (now (halves .entry)) (now (wide .entry)) (now («prg_banks» .entry)) (now («chr_banks» .entry)) (now («prg_pages» .entry)) (now («chr_pages» .entry))) (λ (s : State). pageOf (chrWordAt (s .«chr_pages») addr)) ⌝ }
+pub extern "C" fn mmc5_ppu_entry(words: &[u16; 144], addr: u16) -> u32
+    ensures { λ r. ⌜ r ≡ entryOn (now (words .entry)) (λ (s : State). pageOf (chrWordAt (s .«chr_pages») addr)) ⌝ }
 {
-    let good = words::ranges::words_in_range(bytes, halves, wide, prg_pages, chr_pages);
-    let word = words::tables::chr_word(chr_pages, addr);
+    let good = gate::in_range(words);
+    let word = tables::chr_word(words, addr);
     let page = memory::words::page_of(word);
     if_in_range(good, entry_number(page))
 }
 
-// A page's bytes, copied where the words are a state and there are 1,024 bytes and room for just so many: how many.
-fn copy(good: bool, part: &[u8], out: &mut [u8]) -> u32
-    ensures { λ r. ⌜ copiedOf r (now (out .exit)) ≡ copied good (now (part .entry)) (now (out .entry)) ⌝ }
+// A page's bytes, copied where there are 1,024 bytes and room for just so many: how many.
+fn copy(part: &[u8], out: &mut [u8]) -> u32
+    ensures { λ r. ⌜ copiedOf r (now (out .exit)) ≡ copied (now (part .entry)) (now (out .entry)) ⌝ }
 {
-    let whole = good & ((part.len() == 1024) & (out.len() == 1024));
-    if !whole {
+    let fits = (part.len() == 1024) & (out.len() == 1024);
+    if !fits {
         return 0;
     }
     let mut i: usize = 0;
@@ -106,13 +90,7 @@ fn copy(good: bool, part: &[u8], out: &mut [u8]) -> u32
 // The bytes that the page at a CPU address shows of PRG-ROM or of PRG-RAM.
 #[no_mangle]
 pub extern "C" fn mmc5_cpu_page<'a>(
-    bytes: &[u8; 33],
-    halves: &[u16; 5],
-    wide: &[u32; 6],
-    prg_banks: &[u8; 5],
-    chr_banks: &[u8; 16],
-    prg_pages: &[u16; 64],
-    chr_pages: &[u16; 16],
+    words: &[u16; 144],
     prg: &'a [u8],
     chr: &[u8],
     ram: &'a [u8],
@@ -121,32 +99,17 @@ pub extern "C" fn mmc5_cpu_page<'a>(
     addr: u16,
     out: &mut [u8],
 ) -> u32
-    ensures { λ r. ⌜ copiedOf r (now (out .exit)) ≡ copyOn (wordsAt (now (bytes .entry)) (now (halves .entry)) (now (wide .entry)) (now («prg_banks» .entry)) (now («chr_banks» .entry)) (now («prg_pages» .entry)) (now («chr_pages» .entry))) (λ (s : State). cpuView s (memOf (now (prg .entry)) (now (chr .entry)) (now (ram .entry)) (now (ciram .entry)) (now (exram .entry))) addr) (now (out .entry)) ⌝ }
+    ensures { λ r. ⌜ copiedOf r (now (out .exit)) ≡ copyOn (now (words .entry)) (λ (s : State). cpuView s (memOf (now (prg .entry)) (now (chr .entry)) (now (ram .entry)) (now (ciram .entry)) (now (exram .entry))) addr) (now (out .entry)) ⌝ }
 {
-    let good = words::read::is_good(bytes);
-    let s = words::read::state_of(
-        bytes,
-        halves,
-        wide,
-        prg_banks,
-        chr_banks,
-        prg_pages,
-        chr_pages,
-    );
+    let s = whole::state_of(words);
     let part = views::cpu_view(s, prg, chr, ram, ciram, exram, CpuAddr(addr));
-    copy(good, part, out)
+    copy(part, out)
 }
 
 // The bytes that the page at a PPU address shows of CHR.
 #[no_mangle]
 pub extern "C" fn mmc5_ppu_page(
-    bytes: &[u8; 33],
-    halves: &[u16; 5],
-    wide: &[u32; 6],
-    prg_banks: &[u8; 5],
-    chr_banks: &[u8; 16],
-    prg_pages: &[u16; 64],
-    chr_pages: &[u16; 16],
+    words: &[u16; 144],
     prg: &[u8],
     chr: &[u8],
     ram: &[u8],
@@ -155,18 +118,9 @@ pub extern "C" fn mmc5_ppu_page(
     addr: u16,
     out: &mut [u8],
 ) -> u32
-    ensures { λ r. ⌜ copiedOf r (now (out .exit)) ≡ copyOn (wordsAt (now (bytes .entry)) (now (halves .entry)) (now (wide .entry)) (now («prg_banks» .entry)) (now («chr_banks» .entry)) (now («prg_pages» .entry)) (now («chr_pages» .entry))) (λ (s : State). ppuView s (memOf (now (prg .entry)) (now (chr .entry)) (now (ram .entry)) (now (ciram .entry)) (now (exram .entry))) addr) (now (out .entry)) ⌝ }
+    ensures { λ r. ⌜ copiedOf r (now (out .exit)) ≡ copyOn (now (words .entry)) (λ (s : State). ppuView s (memOf (now (prg .entry)) (now (chr .entry)) (now (ram .entry)) (now (ciram .entry)) (now (exram .entry))) addr) (now (out .entry)) ⌝ }
 {
-    let good = words::read::is_good(bytes);
-    let s = words::read::state_of(
-        bytes,
-        halves,
-        wide,
-        prg_banks,
-        chr_banks,
-        prg_pages,
-        chr_pages,
-    );
+    let s = whole::state_of(words);
     let part = views::ppu_view(s, prg, chr, ram, ciram, exram, PpuAddr(addr));
-    copy(good, part, out)
+    copy(part, out)
 }

@@ -10,12 +10,14 @@ use Rattle.memory.specs.Bytes.{Mem}
 use Rattle.memory.specs.Words.{pick}
 use Rattle.memory.proofs.Tests.{split}
 use Rattle.answers.specs.declared.Refusal.{Refusal}
+use Rattle.answers.specs.declared.Refusal.the-variants.{Length}
 use Rattle.answers.specs.Numbers.{numberOf}
 use Rattle.answers.proofs.Cases.{if-refused}
 use Rattle.state.specs.declared.gate.Gate.{Gate}
 use Rattle.state.specs.declared.gate.Gate.the-variants.{Open, Shut}
 use Rattle.state.specs.declared.State.{State}
 use Rattle.state.specs.Gate.{gateMem}
+use Rattle.state.specs.Ranges.{inRange}
 use Rattle.board.specs.Outcomes.{behind}
 use Rattle.trace.specs.Records.{recordAt, tooLong}
 use Rattle.trace.proofs.RecordLaws.{record-advances}
@@ -25,27 +27,27 @@ use Rattle.player.specs.declared.Ending.the-variants.{Done, Stopped}
 use Rattle.player.specs.declared.Replayed.{Replayed}
 use Rattle.player.specs.Replay.{Left, leftOf, ended, playedFrom, replayed}
 use Rattle.player.proofs.Ways.{by-found}
-use Rattle.words.specs.Promise.{Lent}
-use Rattle.words.specs.Words.{Words, good, stateOf, wordsOf}
-use Rattle.words.proofs.RoundLaws.{words-back}
+use Rattle.promises.proofs.Gates.{in-range-of}
+use Rattle.host_state.specs.Words.{stateOf, wordsOf}
+use Rattle.host_state.proofs.Backs.{words-back}
 use Rattle.host_replay.specs.Promise.{TakenApart, ReplayPromised}
 use Rattle.host_replay.specs.Replays.{LeftReplay, endingTold, lastOf, leftReplay, leavingReplay, replayOn}
 
-pub too-long-stays : (w : Words) (trace : List ℕ) (m : Mem) (log : List ℕ) (b : Bool) → b ≡ tooLong (length trace) → b ≡ true
-    → leftReplay 720896 w m log ≡ replayOn w trace m log
+pub too-long-stays : (w trace : List ℕ) (m : Mem) (log : List ℕ) (b : Bool) (n : ℕ) → b ≡ tooLong (length trace) → b ≡ true → n ≡ endingTold (Stopped 0 Length)
+    → leftReplay n w m log ≡ replayOn w trace m log
 unfolding replayOn
-too-long-stays w trace m log b e t = rw (← e, t)
+too-long-stays w trace m log b n e t en = rw (← e, t, en)
 
-pub no-state-stays : (w : Words) (trace : List ℕ) (m : Mem) (log : List ℕ) (b g : Bool) → b ≡ tooLong (length trace) → b ≡ false → g ≡ good (w .bytes) → not g ≡ true
-    → leftReplay 327680 w m log ≡ replayOn w trace m log
+pub shut-stays : (w trace : List ℕ) (m : Mem) (log : List ℕ) (b : Bool) (k : Gate) (r : Refusal) (n : ℕ)
+    → b ≡ tooLong (length trace) → b ≡ false → k ≡ gateMem (stateOf w) m → k ≡ Shut r → n ≡ endingTold (Stopped 0 r) → leftReplay n w m log ≡ replayOn w trace m log
 unfolding replayOn
-no-state-stays w trace m log b g eb tb e t = rw (← eb, tb, ← e, t)
+shut-stays w trace m log b k r n eb tb e t en = rw (← eb, tb, ← e, t, en)
 
-pub replay-left : (w v : Words) (trace : List ℕ) (m m′ : Mem) (log log′ : List ℕ) (b g : Bool) (s : State) (o : Replayed) (n : ℕ)
-    → b ≡ tooLong (length trace) → b ≡ false → g ≡ good (w .bytes) → not g ≡ false → s ≡ stateOf w → leftOf o m′ log′ ≡ replayed s trace m log → v ≡ wordsOf (o .state)
+pub replay-left : (w v trace : List ℕ) (m m′ : Mem) (log log′ : List ℕ) (b : Bool) (k : Gate) (s : State) (o : Replayed) (n : ℕ)
+    → b ≡ tooLong (length trace) → b ≡ false → k ≡ gateMem (stateOf w) m → k ≡ Open → s ≡ stateOf w → leftOf o m′ log′ ≡ replayed s trace m log → v ≡ wordsOf (o .state)
     → n ≡ endingTold (o .ending) → leftReplay n v m′ log′ ≡ replayOn w trace m log
 unfolding replayOn
-replay-left w v trace m m′ log log′ b g s o n eb tb e t es eo ev en = rw (← eb, tb, ← e, t, en, ev, ← es, ← eo)
+replay-left w v trace m m′ log log′ b k s o n eb tb e t es eo ev en = rw (← eb, tb, ← e, t, en, ev, ← es, ← eo)
 
 by-gate : (P : Left → Type 0) (g : Gate) (shut : Refusal → Left) (go : Left) → ((why : Refusal) → P (shut why)) → P go → P (behind g shut go)
 by-gate P Open shut go s g = g
@@ -121,23 +123,23 @@ replayed-stays s trace m log =
     split (tooLong (length trace)) (λ t. rw t (λ a b. refl))
     (λ t. rw t (by-gate (Stays s m log) (gateMem s m) _ _ (λ why a b. refl) (first-stays (length trace + 1) trace s m log (ltb-false 8192 (length trace) t))))
 
-abbrev Same : Words → Mem → List ℕ → LeftReplay → Type 0
+abbrev Same : List ℕ → Mem → List ℕ → LeftReplay → Type 0
 Same w m log h = 65536 ≤ h .number → h .number % 65536 ≡ 0 → h ≡ leftReplay (h .number) w m log
 
-hosting-same : (w : Words) (trace : List ℕ) (m : Mem) (log : List ℕ) → Lent w → good (w .bytes) ≡ true → Same w m log (leavingReplay (replayed (stateOf w) trace m log))
-hosting-same w trace m log lent g a b =
+hosting-same : (w trace : List ℕ) (m : Mem) (log : List ℕ) → length w ≡ 144 → inRange (stateOf w) ≡ true → Same w m log (leavingReplay (replayed (stateOf w) trace m log))
+hosting-same w trace m log e h a b =
     ap leavingReplay (replayed-stays (stateOf w) trace m log a b)
-    ∙ ap (λ (v : Words). leftReplay (endingTold (replayed (stateOf w) trace m log .out .ending)) v m log) (words-back w (lent .bytes) (lent .halves) (lent .wide) g)
+    ∙ ap (λ (v : List ℕ). leftReplay (endingTold (replayed (stateOf w) trace m log .out .ending)) v m log) (words-back w e h)
 
-on-good : (w : Words) (m : Mem) (log : List ℕ) (x : LeftReplay) (g : Bool) → (g ≡ true → Same w m log x) → Same w m log (pick (not g) (leftReplay 327680 w m log) x)
-on-good w m log x true s = s refl
-on-good w m log x false s = λ a b. refl
+on-gate : (w : List ℕ) (m : Mem) (log : List ℕ) (x : LeftReplay) (g : Gate) → (g ≡ Open → Same w m log x) → Same w m log (behind g (λ (r : Refusal). leftReplay (endingTold (Stopped 0 r)) w m log) x)
+on-gate w m log x Open s = s refl
+on-gate w m log x (Shut r) s = λ a b. refl
 
-same-on : (w : Words) (trace : List ℕ) (m : Mem) (log : List ℕ) → Lent w → Same w m log (replayOn w trace m log)
+same-on : (w trace : List ℕ) (m : Mem) (log : List ℕ) → length w ≡ 144 → Same w m log (replayOn w trace m log)
 unfolding replayOn
-same-on w trace m log lent =
+same-on w trace m log e =
     split (tooLong (length trace)) (λ t. rw t (λ a b. refl))
-    (λ t. rw t (on-good w m log _ (good (w .bytes)) (hosting-same w trace m log lent)))
+    (λ t. rw t (on-gate w m log _ (gateMem (stateOf w) m) (λ o. hosting-same w trace m log e (in-range-of (stateOf w) m o))))
 
 pub promised : ReplayPromised
 promised =

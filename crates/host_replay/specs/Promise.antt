@@ -2,12 +2,11 @@
 use Prim.Native.Nat.{ℕ, _/_, _%_, _≤_}
 use mathlib.Core.List.{List}
 use mathlib.Core.Path.{_≡_}
+use lib.ListN.{length}
 use Rattle.memory.specs.Bytes.{Mem}
 use Rattle.state.specs.declared.State.{State}
 use Rattle.player.specs.declared.Ending.{Ending}
 use Rattle.player.specs.Replay.{replayed}
-use Rattle.words.specs.Promise.{Lent}
-use Rattle.words.specs.Words.{Words}
 use Rattle.host_replay.specs.Replays.{endingTold, lastOf, refusalIn, leftReplay, replayOn}
 
 -- The number can be taken apart: no count and no place reaches 65,536.
@@ -17,5 +16,5 @@ TakenApart e = (endingTold e / 65536 ≡ refusalIn e) × (endingTold e % 65536 �
 pub record ReplayPromised : Type 0 where
   pub apart : (s : State) (trace : List ℕ) (m : Mem) (log : List ℕ) → TakenApart (replayed s trace m log .out .ending)
   -- A replay that stopped at place 0, for 11, 4, 5 or by its first record, left every word, byte and log entry as it was.
-  pub unchanged : (w : Words) (trace : List ℕ) (m : Mem) (log : List ℕ) → Lent w → 65536 ≤ replayOn w trace m log .number → replayOn w trace m log .number % 65536 ≡ 0
+  pub unchanged : (w : List ℕ) (trace : List ℕ) (m : Mem) (log : List ℕ) → length w ≡ 144 → 65536 ≤ replayOn w trace m log .number → replayOn w trace m log .number % 65536 ≡ 0
       → replayOn w trace m log ≡ leftReplay (replayOn w trace m log .number) w m log

@@ -3,15 +3,13 @@
 ghost use mathlib.Core.Path.{_≡_};
 ghost use Prim.Native.Nat.{_≤_};
 ghost use Rattle.memory.specs.Bytes.{memOf};
-ghost use Rattle.words.specs.Words.{wordsAt};
 ghost use Rattle.host_replay.specs.Promise.{ReplayPromised};
 ghost use Rattle.host_replay.specs.Replays.{endingTold, lastOf, leftReplay, replayOn};
+use answers::Refusal;
+use host_state::gate;
+use host_state::whole;
 use player::Ending;
-
-// 11 and 5, at place 0.
-const TOO_LONG: u32 = 720896;
-
-const NO_STATE: u32 = 327680;
+use state::gate::Gate;
 
 // The count, or the refusal's number times 65,536 and the place.
 fn told(ending: Ending) -> u32
@@ -28,13 +26,7 @@ fn told(ending: Ending) -> u32
 // Plays a trace, and logs each answer.
 #[no_mangle]
 pub extern "C" fn mmc5_replay(
-    bytes: &mut [u8; 33],
-    halves: &mut [u16; 5],
-    wide: &mut [u32; 6],
-    prg_banks: &mut [u8; 5],
-    chr_banks: &mut [u8; 16],
-    prg_pages: &mut [u16; 64],
-    chr_pages: &mut [u16; 16],
+    words: &mut [u16; 144],
     prg: &[u8],
     chr: &mut [u8],
     ram: &mut [u8],
@@ -43,37 +35,28 @@ pub extern "C" fn mmc5_replay(
     trace: &[u8],
     log: &mut [u8],
 ) -> u32
-    ensures { λ r. ⌜ leftReplay r (wordsAt (now (bytes .exit)) (now (halves .exit)) (now (wide .exit)) (now («prg_banks» .exit)) (now («chr_banks» .exit)) (now («prg_pages» .exit)) (now («chr_pages» .exit))) (memOf (now (prg .entry)) (now (chr .exit)) (now (ram .exit)) (now (ciram .exit)) (now (exram .exit))) (now (log .exit))
-        ≡ replayOn (wordsAt (now (bytes .entry)) (now (halves .entry)) (now (wide .entry)) (now («prg_banks» .entry)) (now («chr_banks» .entry)) (now («prg_pages» .entry)) (now («chr_pages» .entry))) (now (trace .entry)) (memOf (now (prg .entry)) (now (chr .entry)) (now (ram .entry)) (now (ciram .entry)) (now (exram .entry))) (now (log .entry)) ⌝ }
+    ensures { λ r. ⌜ leftReplay r (now (words .exit)) (memOf (now (prg .entry)) (now (chr .exit)) (now (ram .exit)) (now (ciram .exit)) (now (exram .exit))) (now (log .exit))
+        ≡ replayOn (now (words .entry)) (now (trace .entry)) (memOf (now (prg .entry)) (now (chr .entry)) (now (ram .entry)) (now (ciram .entry)) (now (exram .entry))) (now (log .entry)) ⌝ }
 {
     if trace::too_long(trace.len()) {
-        return TOO_LONG;
+        return told(Ending::Stopped(0, Refusal::Length));
     }
-    if !words::read::is_good(bytes) {
-        return NO_STATE;
-    }
-    let s = words::read::state_of(
-        bytes,
-        halves,
-        wide,
-        prg_banks,
-        chr_banks,
-        prg_pages,
-        chr_pages,
+    let gate = gate::passed(
+        words,
+        prg.len(),
+        chr.len(),
+        ram.len(),
+        ciram.len(),
+        exram.len(),
     );
+    if let Gate::Shut(refusal) = gate {
+        return told(Ending::Stopped(0, refusal));
+    }
+    let s = whole::state_of(words);
     let o = player::replay(s, trace, prg, chr, ram, ciram, exram, log);
     let ending = o.ending;
     let t = o.state;
-    words::put::put_state(
-        t,
-        bytes,
-        halves,
-        wide,
-        prg_banks,
-        chr_banks,
-        prg_pages,
-        chr_pages,
-    );
+    whole::put_state(t, words);
     told(ending)
 }
 

@@ -32,7 +32,8 @@ use Rattle.served.specs.Held.{Held, boardOf}
 use Rattle.served.specs.Held.Hearing.{number as hear}
 use Rattle.served.specs.Calls.{Loading, Calls}
 use Rattle.served.specs.Served.{plainly, withInterrupt, hears, loadOf, Refusing, Hosted}
-use Rattle.served.specs.Interrupts.{Tells, UpAfter, AllInRange, InterruptIsTold}
+use Rattle.served.specs.Interrupts.{Tells, UpAfter, InterruptIsTold}
+use Rattle.served.specs.Numbers.{AllInRange}
 use Rattle.served.proofs.Along.{host-is-history}
 use Rattle.served.proofs.Lines.{onward, says-none}
 use Rattle.served.proofs.Refusing.{asNumber, answer-with, not-refused}

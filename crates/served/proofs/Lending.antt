@@ -26,7 +26,7 @@ use Rattle.views.specs.Views.{cpuView, ppuView}
 use Rattle.trace.specs.declared.Call.the-variants.{Clock, CpuRead, CpuWrite, PpuRegister, PpuFetch, Reset, PpuWrite}
 use Rattle.calls.specs.Called.{overLent}
 use Rattle.told.specs.Told.{toldPlain, toldWith, mirroringTold, interruptTold}
-use Rattle.words.specs.Words.{Words, mirroringNumbered, numberOfMirroring, wordsOf}
+use Rattle.host_state.specs.Words.{mirroringNumbered, numberOfMirroring, wordsOf}
 use Rattle.host.specs.Hosted.{leftMemory}
 use Rattle.host_looks.specs.Pages.{copied}
 use Rattle.histories.specs.Boards.{Board, Made, says, leaves}
@@ -37,7 +37,8 @@ use Rattle.served.specs.Calls.{loading, Loads, Calls}
 use Rattle.served.specs.Served.{plainly, withInterrupt, hears}
 use Rattle.served.proofs.Pages.{copied-whole, cpu-page-whole, ppu-page-whole}
 use Rattle.served.proofs.Roms.{write-rom, store-rom}
-use Rattle.served.proofs.Stands.{on-words, on-memory, look-on, copy-on}
+use Rattle.served.proofs.Backs.{clock-back, reset-back, register-back, read-back, fetch-back, write-back, store-back}
+use Rattle.served.proofs.Stands.{Sound, on-words, on-memory, look-on, copy-on}
 use Rattle.served.proofs.Steps.{over-lent}
 
 -- Something lent, for some lifetimes.
@@ -48,8 +49,8 @@ abbrev lifetimes : (n : ℕ) → Lfts n
 lifetimes zero = tt
 lifetimes (suc n) = ([], lifetimes n)
 
-abbrev lendWords : {X : Type 0} → Words → X → WordsThen X
-lendWords w x = (lend (w .bytes), (lend (w .halves), (lend (w .wide), (lend (w .prgBanks), (lend (w .chrBanks), (lend (w .prgPages), (lend (w .chrPages), x)))))))
+abbrev lendWords : {X : Type 0} → List ℕ → X → WordsThen X
+lendWords w x = (lend w, x)
 
 abbrev lendAll : {X : Type 0} → Held → X → Lent X
 lendAll h x = lendWords (h .words) (lend (h .mem .prg), (lend (h .mem .chr), (lend (h .mem .ram), (lend (h .mem .ciram), (lend (h .mem .exram), x)))))
@@ -69,64 +70,64 @@ alone c b o g p =
     subst (λ (x : After). Calls c (heldOf b) (number (toldWith (x .out .answer) (x .out .state .irq))) (held (wordsOf (x .out .state)) (x .mem))) (over-lent (b .state) (b .mem) o g) p
 
 -- Behind an open gate.
-pub lends : (b : Board) → gateMem (b .state) (b .mem) ≡ Open → (c : Made) → Calls c (heldOf b) (hears b c) (heldOf (leaves b c))
+pub lends : (b : Board) → Sound (b .state) → gateMem (b .state) (b .mem) ≡ Open → (c : Made) → Calls c (heldOf b) (hears b c) (heldOf (leaves b c))
 unfolding Calls hears withInterrupt plainly says leaves
-lends b g (call Clock) =
+lends b u g (call Clock) =
     alone (call Clock) b (clockCall (b .state)) g
-    (lifetimes 7, lendWords (wordsOf (b .state)) tt, _, lendWords (wordsOf (clockCall (b .state) .state)) tt, sym (on-words (b .state) clockCall), refl)
-lends b g (call Reset) =
+    (lifetimes 1, lendWords (wordsOf (b .state)) tt, _, lendWords (wordsOf (clockCall (b .state) .state)) tt, sym (on-words (b .state) clockCall u (clock-back (b .state))), refl)
+lends b u g (call Reset) =
     alone (call Reset) b (resetCall (b .state)) g
-    (lifetimes 7, lendWords (wordsOf (b .state)) tt, _, lendWords (wordsOf (resetCall (b .state) .state)) tt, sym (on-words (b .state) resetCall), refl)
-lends b g (call (PpuRegister a v)) =
+    (lifetimes 1, lendWords (wordsOf (b .state)) tt, _, lendWords (wordsOf (resetCall (b .state) .state)) tt, sym (on-words (b .state) resetCall u (reset-back (b .state))), refl)
+lends b u g (call (PpuRegister a v)) =
     alone (call (PpuRegister a v)) b (ppuRegisterCall (b .state) (a .0) v) g (
-      lifetimes 7,
+      lifetimes 1,
       lendWords (wordsOf (b .state)) (a .0, (v, tt)),
       _,
       lendWords (wordsOf (ppuRegisterCall (b .state) (a .0) v .state)) (a .0, (v, tt)),
-      sym (on-words (b .state) (λ (s : State). ppuRegisterCall s (a .0) v)),
+      sym (on-words (b .state) (λ (s : State). ppuRegisterCall s (a .0) v) u (register-back (b .state) (a .0) v)),
       refl,
     )
-lends b g (call (CpuRead a)) =
-    (lifetimes 12, lendAll (heldOf b) (a .0, tt), _, lendAll (heldOf (leaves b (call (CpuRead a)))) (a .0, tt), sym (on-words (b .state) (λ (s : State). cpuRead s (b .mem) (a .0))), refl)
-lends b g (call (PpuFetch a)) =
-    (lifetimes 12, lendAll (heldOf b) (a .0, tt), _, lendAll (heldOf (leaves b (call (PpuFetch a)))) (a .0, tt), sym (on-words (b .state) (λ (s : State). ppuFetch s (b .mem) (a .0))), refl)
-lends b g (call (CpuWrite a v)) = (
-  lifetimes 12,
+lends b u g (call (CpuRead a)) =
+    (lifetimes 6, lendAll (heldOf b) (a .0, tt), _, lendAll (heldOf (leaves b (call (CpuRead a)))) (a .0, tt), sym (on-words (b .state) (λ (s : State). cpuRead s (b .mem) (a .0)) u (read-back (b .state) (b .mem) (a .0))), refl)
+lends b u g (call (PpuFetch a)) =
+    (lifetimes 6, lendAll (heldOf b) (a .0, tt), _, lendAll (heldOf (leaves b (call (PpuFetch a)))) (a .0, tt), sym (on-words (b .state) (λ (s : State). ppuFetch s (b .mem) (a .0)) u (fetch-back (b .state) (b .mem) (a .0))), refl)
+lends b u g (call (CpuWrite a v)) = (
+  lifetimes 6,
   lendAll (heldOf b) (a .0, (v, tt)),
   _,
   lendAll (heldOf (leaves b (call (CpuWrite a v)))) (a .0, (v, tt)),
-  ap (leftMemory _ _) (write-rom (b .state) (b .mem) (a .0) v) ∙ sym (on-memory (b .state) (b .mem) (λ (s : State). cpuWrite s (b .mem) (a .0) v)),
+  ap (leftMemory _ _) (write-rom (b .state) (b .mem) (a .0) v) ∙ sym (on-memory (b .state) (b .mem) (λ (s : State). cpuWrite s (b .mem) (a .0) v) u (write-back (b .state) (b .mem) (a .0) v)),
   ap (λ (m : Mem). exchange (a .0 ∷ v ∷ []) (heldOf b) (hears b (call (CpuWrite a v))) (held (wordsOf (leaves b (call (CpuWrite a v)) .state)) m)) (write-rom (b .state) (b .mem) (a .0) v),
 )
-lends b g (call (PpuWrite a v)) = (
-  lifetimes 12,
+lends b u g (call (PpuWrite a v)) = (
+  lifetimes 6,
   lendAll (heldOf b) (a .0, (v, tt)),
   _,
   lendAll (heldOf (leaves b (call (PpuWrite a v)))) (a .0, (v, tt)),
-  ap (leftMemory _ _) (store-rom (b .state) (b .mem) (a .0) v) ∙ sym (on-memory (b .state) (b .mem) (λ (s : State). ppuWrite s (b .mem) (a .0) v)),
+  ap (leftMemory _ _) (store-rom (b .state) (b .mem) (a .0) v) ∙ sym (on-memory (b .state) (b .mem) (λ (s : State). ppuWrite s (b .mem) (a .0) v) u (store-back (b .state) (b .mem) (a .0) v)),
   ap (λ (m : Mem). exchange (a .0 ∷ v ∷ []) (heldOf b) (hears b (call (PpuWrite a v))) (held (wordsOf (leaves b (call (PpuWrite a v)) .state)) m)) (store-rom (b .state) (b .mem) (a .0) v),
 )
-lends b g (peek a) = (lifetimes 12, lendAll (heldOf b) (a .0, tt), _, lendAll (heldOf b) (a .0, tt), sym (look-on (b .state) toldPlain (λ (s : State). cpuPeek s (b .mem) (a .0))), refl)
-lends b g (ppu-peek a) = (lifetimes 12, lendAll (heldOf b) (a .0, tt), _, lendAll (heldOf b) (a .0, tt), sym (look-on (b .state) toldPlain (λ (s : State). ppuPeek s (b .mem) (a .0))), refl)
-lends b g (sprite-peek a) = (lifetimes 12, lendAll (heldOf b) (a .0, tt), _, lendAll (heldOf b) (a .0, tt), sym (look-on (b .state) toldPlain (λ (s : State). spritePeek s (b .mem) (a .0))), refl)
-lends b g mirroring-asked = (lifetimes 7, lendWords (wordsOf (b .state)) tt, _, lendWords (wordsOf (b .state)) tt, sym (look-on (b .state) mirroringTold mirroringCall), refl)
-lends b g interrupt-asked = (lifetimes 7, lendWords (wordsOf (b .state)) tt, _, lendWords (wordsOf (b .state)) tt, sym (look-on (b .state) interruptTold interruptCall), refl)
-lends b g (cpu-page a) =
-    let c = copied true (cpuView (b .state) (b .mem) (a .0)) room in (
-      lifetimes 12,
+lends b u g (peek a) = (lifetimes 6, lendAll (heldOf b) (a .0, tt), _, lendAll (heldOf b) (a .0, tt), sym (look-on (b .state) toldPlain (λ (s : State). cpuPeek s (b .mem) (a .0)) u), refl)
+lends b u g (ppu-peek a) = (lifetimes 6, lendAll (heldOf b) (a .0, tt), _, lendAll (heldOf b) (a .0, tt), sym (look-on (b .state) toldPlain (λ (s : State). ppuPeek s (b .mem) (a .0)) u), refl)
+lends b u g (sprite-peek a) = (lifetimes 6, lendAll (heldOf b) (a .0, tt), _, lendAll (heldOf b) (a .0, tt), sym (look-on (b .state) toldPlain (λ (s : State). spritePeek s (b .mem) (a .0)) u), refl)
+lends b u g mirroring-asked = (lifetimes 1, lendWords (wordsOf (b .state)) tt, _, lendWords (wordsOf (b .state)) tt, sym (look-on (b .state) mirroringTold mirroringCall u), refl)
+lends b u g interrupt-asked = (lifetimes 1, lendWords (wordsOf (b .state)) tt, _, lendWords (wordsOf (b .state)) tt, sym (look-on (b .state) interruptTold interruptCall u), refl)
+lends b u g (cpu-page a) =
+    let c = copied (cpuView (b .state) (b .mem) (a .0)) room in (
+      lifetimes 6,
       lendAll (heldOf b) (a .0, (lend room, tt)),
       c .count,
       lendAll (heldOf b) (a .0, (lend (c .bytes), tt)),
-      (sym (copy-on (b .state) (λ (s : State). cpuView s (b .mem) (a .0)) room), room-for),
+      (sym (copy-on (b .state) (λ (s : State). cpuView s (b .mem) (a .0)) room u), room-for),
       ap (λ (l : List ℕ). looking (a .0 ∷ []) (heldOf b) (bytes l)) (copied-whole (cpu-page-whole (b .state) (b .mem) (a .0)) room room-for),
     )
-lends b g (ppu-page a) =
-    let c = copied true (ppuView (b .state) (b .mem) (a .0)) room in (
-      lifetimes 13,
+lends b u g (ppu-page a) =
+    let c = copied (ppuView (b .state) (b .mem) (a .0)) room in (
+      lifetimes 7,
       lendAll (heldOf b) (a .0, (lend room, tt)),
       c .count,
       lendAll (heldOf b) (a .0, (lend (c .bytes), tt)),
-      (sym (copy-on (b .state) (λ (s : State). ppuView s (b .mem) (a .0)) room), room-for),
+      (sym (copy-on (b .state) (λ (s : State). ppuView s (b .mem) (a .0)) room u), room-for),
       ap (λ (l : List ℕ). looking (a .0 ∷ []) (heldOf b) (bytes l)) (copied-whole (ppu-page-whole (b .state) (b .mem) (a .0)) room room-for),
     )
 
@@ -146,7 +147,7 @@ pub lends-load : (m : Mem) (ram : Bool) (k : Mirroring) → let o = loadCall m r
 unfolding Loads
 lends-load m ram k =
     let o = loadCall m ram k in (
-      lifetimes 12,
+      lifetimes 6,
       lendAll (held (wordsOf (o .state)) m) (asBit ram, (numberOfMirroring k, tt)),
       toldWith (o .answer) (o .state .irq),
       lendAll (held (wordsOf (o .state)) m) (asBit ram, (numberOfMirroring k, tt)),

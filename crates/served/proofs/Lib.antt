@@ -1,9 +1,12 @@
 pub mod Stands
+pub mod Backs
 pub mod Pages
 pub mod Roms
 pub mod Steps
 pub mod Lending
 pub mod Refusing
+pub mod FitKept
+pub mod Fitting
 pub mod Replaying
 pub mod Along
 pub mod Exported

@@ -27,7 +27,7 @@ use Rattle.host_looks.specs.Pages.{copied}
 abbrev pub IsPage : List ℕ → Type 0
 IsPage l = (length l ≡ 1024) ⊎ (l ≡ [])
 
-pub copied-whole : {part : List ℕ} → IsPage part → (out : List ℕ) → length out ≡ 1024 → take (copied true part out .count) (copied true part out .bytes) ≡ part
+pub copied-whole : {part : List ℕ} → IsPage part → (out : List ℕ) → length out ≡ 1024 → take (copied part out .count) (copied part out .bytes) ≡ part
 unfolding copied
 copied-whole {part} (inl e) out z = rw (eq-eqb (length part) 1024 e, eq-eqb (length out) 1024 z) (take-all 1024 part (omega (arith, e)))
 copied-whole {part} (inr e) out z = rw e

@@ -25,7 +25,7 @@ use Rattle.board.specs.CpuSide.{cpuPeek}
 use Rattle.board.specs.Whole.{mirroringCall, interruptCall}
 use Rattle.board_ppu.specs.Peeks.{ppuPeek, spritePeek}
 use Rattle.calls.specs.Called.{called}
-use Rattle.words.specs.Words.{numberOfMirroring}
+use Rattle.host_state.specs.Words.{numberOfMirroring}
 use Rattle.told.specs.Told.{toldPlain, toldWith, mirroringTold, interruptTold}
 use Rattle.histories.specs.Boards.{Board, Made, says, leaves, number, numberIn}
 use Rattle.histories.specs.Boards.Made.{call, peek, ppu-peek, sprite-peek, mirroring-asked, interrupt-asked, cpu-page, ppu-page}

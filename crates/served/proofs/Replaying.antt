@@ -7,6 +7,8 @@ use borrow.Author.Tests.{lt-ltb, ltb-true, ltb-false}
 use lib.Dec.{ltb}
 use lib.ListN.{length}
 use Rattle.memory.proofs.Tests.{split}
+use Rattle.state.specs.declared.gate.Gate.the-variants.{Open}
+use Rattle.state.specs.Gate.{gateMem}
 use Rattle.trace.specs.declared.Call.{Call}
 use Rattle.player.specs.declared.Ending.{Ending}
 use Rattle.player.specs.declared.Ending.the-variants.{Done, Stopped}
@@ -23,7 +25,7 @@ use Rattle.histories.proofs.Replayed.{from-history, too-long}
 use Rattle.served.specs.Held.{Held, held, heldOf}
 use Rattle.served.specs.Calls.{Replaying, Runs}
 use Rattle.served.specs.Served.{placeTold, callsTold, Replayed}
-use Rattle.served.proofs.Stands.{replay-on}
+use Rattle.served.proofs.Stands.{Sound, replay-on}
 
 -- The number tells the place where the replay ended.
 place-told : (trace : List ℕ) (e : Ending) → TakenApart e → placeTold trace (endingTold e) ≡ endOf trace e
@@ -42,9 +44,9 @@ unfolding Runs
 left-by y (κ, a, r, e, t, q) =
     subst (λ (z : Replaying). leftReplay (z .told) (z .after .words) (z .after .mem) (z .log-after) ≡ replayOn (z .before .words) (z .trace) (z .before .mem) (z .log)) q t
 
-pub replay-step : (b : Board) (y : Replaying) → y .before ≡ heldOf b → Runs y → Replayed y (replayOf b (y .trace) (y .log))
-replay-step b y e p =
-    let q = left-by y p ∙ ap (λ (h : Held). replayOn (h .words) (y .trace) (h .mem) (y .log)) e ∙ replay-on (b .state) (y .trace) (b .mem) (y .log) in
+pub replay-step : (b : Board) (y : Replaying) → Sound (b .state) → gateMem (b .state) (b .mem) ≡ Open → y .before ≡ heldOf b → Runs y → Replayed y (replayOf b (y .trace) (y .log))
+replay-step b y u g e p =
+    let q = left-by y p ∙ ap (λ (h : Held). replayOn (h .words) (y .trace) (h .mem) (y .log)) e ∙ replay-on (b .state) (y .trace) (b .mem) (y .log) u g in
     let n = ap (λ (z : LeftReplay). z .number) q in
     record {
       told = n;

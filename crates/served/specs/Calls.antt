@@ -12,17 +12,17 @@ use Rattle.memory.specs.Bytes.{Mem}
 use Rattle.registers.specs.declared.Mirroring.{Mirroring}
 use Rattle.trace.specs.declared.Call.the-variants.{Clock, CpuRead, CpuWrite, PpuRegister, PpuFetch, Reset, PpuWrite}
 use Rattle.calls.specs.Lent.{memLeft}
-use Rattle.words.specs.Words.{Words, mirroringNumbered}
+use Rattle.host_state.specs.Words.{mirroringNumbered}
 use Rattle.histories.specs.Boards.{Made}
 use Rattle.histories.specs.Boards.Made.{call, peek, ppu-peek, sprite-peek, mirroring-asked, interrupt-asked, cpu-page, ppu-page}
 use Rattle.host.proofs.clocks.mmc5_clock.Reads as clock
-use Rattle.host.proofs.cpu_side.mmc5_cpu_write.Reads as cpu-write
+use Rattle.host.proofs.writes.mmc5_cpu_write.Reads as cpu-write
 use Rattle.host.proofs.fetches.mmc5_ppu_fetch.Reads as ppu-fetch
 use Rattle.host.proofs.loads.mmc5_load.Reads as load
-use Rattle.host.proofs.ppu_side.mmc5_ppu_write.Reads as ppu-write
+use Rattle.host.proofs.ppu_writes.mmc5_ppu_write.Reads as ppu-write
 use Rattle.host.proofs.reads.mmc5_cpu_read.Reads as cpu-read
-use Rattle.host.proofs.whole.mmc5_ppu_register.Reads as ppu-register
-use Rattle.host.proofs.whole.mmc5_reset.Reads as reset
+use Rattle.host.proofs.ppu_registers.mmc5_ppu_register.Reads as ppu-register
+use Rattle.host.proofs.resets.mmc5_reset.Reads as reset
 use Rattle.host_looks.proofs.pages.mmc5_cpu_entry.Reads as cpu-entry
 use Rattle.host_looks.proofs.pages.mmc5_cpu_page.Reads as cpu-paged
 use Rattle.host_looks.proofs.pages.mmc5_ppu_entry.Reads as ppu-entry
@@ -44,9 +44,9 @@ pub record Loading : Type 0 where
   pub as-ram : Bool
   pub mirroring : Mirroring
   pub told : ℕ
-  pub words : Words
+  pub words : List ℕ
 
-abbrev pub loading : Mem → Bool → Mirroring → ℕ → Words → Loading
+abbrev pub loading : Mem → Bool → Mirroring → ℕ → List ℕ → Loading
 loading m ram k n w = record { mem = m; as-ram = ram; mirroring = k; told = n; words = w }
 
 -- The contract of `mmc5_load` allows it.

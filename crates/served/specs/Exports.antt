@@ -3,13 +3,13 @@
 -- Assumes nothing.
 use Rattle.histories.specs.Code.{TakesAll}
 use Rattle.host.proofs.clocks.mmc5_clock.Reads as clock
-use Rattle.host.proofs.cpu_side.mmc5_cpu_write.Reads as cpu-write
+use Rattle.host.proofs.writes.mmc5_cpu_write.Reads as cpu-write
 use Rattle.host.proofs.fetches.mmc5_ppu_fetch.Reads as ppu-fetch
 use Rattle.host.proofs.loads.mmc5_load.Reads as load
-use Rattle.host.proofs.ppu_side.mmc5_ppu_write.Reads as ppu-write
+use Rattle.host.proofs.ppu_writes.mmc5_ppu_write.Reads as ppu-write
 use Rattle.host.proofs.reads.mmc5_cpu_read.Reads as cpu-read
-use Rattle.host.proofs.whole.mmc5_ppu_register.Reads as ppu-register
-use Rattle.host.proofs.whole.mmc5_reset.Reads as reset
+use Rattle.host.proofs.ppu_registers.mmc5_ppu_register.Reads as ppu-register
+use Rattle.host.proofs.resets.mmc5_reset.Reads as reset
 use Rattle.host_looks.proofs.pages.mmc5_cpu_entry.Reads as cpu-entry
 use Rattle.host_looks.proofs.pages.mmc5_cpu_page.Reads as cpu-page
 use Rattle.host_looks.proofs.pages.mmc5_ppu_entry.Reads as ppu-entry

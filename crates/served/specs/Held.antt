@@ -1,24 +1,24 @@
 -- What a host holds between calls, what that stands for, and how a call of the library looks to it. No place of a word is named here or in what is
--- built on it: of words only `stateOf` and `wordsOf` are known (crate `words`).
+-- built on it: of words only `stateOf` and `wordsOf` are known (crate `host_state`).
 -- Assumes nothing.
 use Prim.Native.Nat.{ℕ}
 use mathlib.Core.List.{List}
 use Rattle.memory.specs.Bytes.{Mem}
 use Rattle.calls.specs.Lent.{BufferThen, MemoryThen, memLent, behindMemory}
-use Rattle.words.specs.Words.{Words, stateOf, wordsOf}
+use Rattle.host_state.specs.Words.{stateOf, wordsOf}
 use Rattle.histories.specs.Boards.{Board}
 use Rattle.settles.specs.Hosts.{wordsLeft, behindWords}
 
--- The seven arrays of words with which a function's parameters begin, as crate `settles` looks at them.
+-- The array of words with which a function's parameters begin, as crate `settles` looks at it.
 abbrev pub WordsThen : Type 0 → Type 0
-WordsThen X = BufferThen (BufferThen (BufferThen (BufferThen (BufferThen (BufferThen (BufferThen X))))))
+WordsThen X = BufferThen X
 
 -- The words and the five buffers.
 pub record Held : Type 0 where
-  pub words : Words
+  pub words : List ℕ
   pub mem : Mem
 
-abbrev pub held : Words → Mem → Held
+abbrev pub held : List ℕ → Mem → Held
 held w m = record { words = w; mem = m }
 
 -- The board that they stand for, and what stands for a board.

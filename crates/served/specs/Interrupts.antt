@@ -6,17 +6,17 @@ use mathlib.Core.List.{List, [], _∷_}
 use mathlib.Core.Logic.{_↔_}
 use mathlib.Core.Path.{_≡_}
 use Rattle.trace.specs.declared.Call.{Call}
-use Rattle.trace.specs.Promise.{InRange}
 use Rattle.lines.specs.Told.{Up}
 use Rattle.lines.specs.Promise.{historyOf}
 use Rattle.transcript.specs.Bytes.{SmallMem}
 use Rattle.told.specs.Told.{toldPlain}
 use Rattle.histories.specs.Boards.{Made}
-use Rattle.histories.specs.Boards.Made.{call, peek, ppu-peek, sprite-peek, mirroring-asked, interrupt-asked, cpu-page, ppu-page}
+use Rattle.histories.specs.Boards.Made.{call, interrupt-asked}
 use Rattle.histories.specs.Histories.{event}
 use Rattle.histories.specs.Replays.{answerAt}
 use Rattle.served.specs.Held.{Held, boardOf}
 use Rattle.served.specs.Held.Hearing.{number}
+use Rattle.served.specs.Numbers.{AllInRange}
 use Rattle.served.specs.Calls.{Loading, Calls}
 use Rattle.served.specs.Served.{Refusing, Hosted}
 
@@ -30,18 +30,6 @@ pub record Tells (x : Loading) (cs : List Made) (h : Held) (c : Call) (n : ℕ) 
 -- The history with it.
 abbrev pub UpAfter : List Made → Call → Type 0
 UpAfter cs c = Up (historyOf event (call c ∷ cs))
-
--- Calls whose addresses are u16 and whose values are bytes, as a host's are.
-unfoldable pub AllInRange : List Made → Type 0
-AllInRange [] = Unit {0}
-AllInRange (call c ∷ cs) = InRange c × AllInRange cs
-AllInRange (peek a ∷ cs) = AllInRange cs
-AllInRange (ppu-peek a ∷ cs) = AllInRange cs
-AllInRange (sprite-peek a ∷ cs) = AllInRange cs
-AllInRange (mirroring-asked ∷ cs) = AllInRange cs
-AllInRange (interrupt-asked ∷ cs) = AllInRange cs
-AllInRange (cpu-page a ∷ cs) = AllInRange cs
-AllInRange (ppu-page a ∷ cs) = AllInRange cs
 
 pub record InterruptIsTold : Type 0 where
   -- docs/HOST.md: "32,768 more where the call was taken, is no peek, and the interrupt is up after it"

@@ -1,4 +1,5 @@
 pub mod Held
+pub mod Numbers
 pub mod Calls
 pub mod Served
 pub mod Exports

@@ -16,7 +16,7 @@ use Rattle.board.specs.Loads.{loadCall}
 use Rattle.board_ppu.specs.Peeks.{chrWordAt}
 use Rattle.trace.specs.declared.Call.{Call}
 use Rattle.player.specs.Replay.{Left}
-use Rattle.words.specs.Words.{wordsOf}
+use Rattle.host_state.specs.Words.{wordsOf}
 use Rattle.told.specs.Told.{toldPlain, toldWith, mirroringTold, interruptTold}
 use Rattle.host_looks.specs.Pages.{entryNumber}
 use Rattle.host_replay.specs.Replays.{endingTold}
@@ -27,6 +27,7 @@ use Rattle.histories.specs.Histories.{Load, first, Reached, view}
 use Rattle.histories.specs.Replays.{recordsTo, playedCalls, boardIn, replayOf}
 use Rattle.served.specs.Held.{Held, held, boardOf, heldOf, Hearing}
 use Rattle.served.specs.Held.Hearing.{number, bytes}
+use Rattle.served.specs.Numbers.{AllInRange}
 use Rattle.served.specs.Calls.{Loading, loading, Loads, Calls, TellsCpuEntry, TellsPpuEntry, Replaying, Runs}
 
 -- What is told of what a call says; of the seven calls with the interrupt after it.
@@ -64,10 +65,10 @@ abbrev pub callsTold : List ℕ → ℕ → List Call
 callsTold trace n = recordsTo (length trace + 1) trace (placeTold trace n) 0 []
 
 -- A host loaded a cartridge and was told no refusal; each of its calls then took what the one before it had left. The calls cs, the newest first,
--- were those that told none, and it holds h.
+-- were those that told none, and it holds h. Its addresses are u16 and its values bytes, as the types of the library's functions have it.
 pub data Hosted (x : Loading) : List Made → Held → Type 0 where
   loaded : Loads x → (Refusing (number (x .told)) → ⊥) → Hosted x [] (held (x .words) (x .mem))
-  taken : {cs : List Made} {h : Held} (c : Made) (n : Hearing) (h' : Held) → Hosted x cs h → Calls c h n h' → (Refusing n → ⊥) → Hosted x (c ∷ cs) h'
+  taken : {cs : List Made} {h : Held} (c : Made) (n : Hearing) (h' : Held) → Hosted x cs h → AllInRange (c ∷ []) → Calls c h n h' → (Refusing n → ⊥) → Hosted x (c ∷ cs) h'
   refused : {cs : List Made} {h : Held} (c : Made) (n : Hearing) (h' : Held) → Hosted x cs h → Calls c h n h' → Refusing n → Hosted x cs h'
   replayed : {cs : List Made} (y : Replaying) → Hosted x cs (y .before) → Runs y → Hosted x (map call (callsTold (y .trace) (y .told)) ++ cs) (y .after)
 
@@ -112,5 +113,5 @@ pub record HostIsHistory : Type 0 where
   pub refused : (x : Loading) (cs : List Made) (h : Held) → Hosted x cs h → (c : Made) (n : Hearing) (h' : Held) → Calls c h n h' → Refusing n → h' ≡ h
   -- a replay tells how it ends, and leaves what it leaves, by the definitions (crate `histories`, specs/Replays.antt, says what that is)
   pub replayed : (x : Loading) (cs : List Made) (y : Replaying) → Hosted x cs (y .before) → Runs y → Replayed y (replayOf (boardOf (y .before)) (y .trace) (y .log))
-  -- and nothing is lost: every history of the board is one of a host
-  pub every : (l : Load) (cs : List Made) (b : Board) → Reached l cs b → Hosted (loadingOf l) cs (heldOf b)
+  -- and nothing is lost: every history of the board, of calls with such numbers, is one of a host
+  pub every : (l : Load) (cs : List Made) (b : Board) → Reached l cs b → AllInRange cs → Hosted (loadingOf l) cs (heldOf b)

@@ -2,7 +2,7 @@
 -- are written out, so that a must-fail edit is refused with what differs: write another out so where a refused search does not name the function.
 use Rattle.settles.specs.Every.{EveryContract}
 use Rattle.settles.proofs.Law.{settled}
-use Rattle.settles.proofs.Several.{stored, placed, step-stored, counted, detector-put, region-put, tiles-put, clocked, made, moved}
+use Rattle.settles.proofs.Several.{stored, placed, step-stored, counted, clocked, made, moved}
 
 pub every-contract : EveryContract
 every-contract = record {
@@ -25,7 +25,7 @@ every-contract = record {
   of-steps = search (settled, step-stored, counted);
   of-player = search settled;
   of-transcript = search settled;
-  of-words = search (settled, detector-put, region-put, tiles-put);
+  of-host-state = search settled;
   of-told = search settled;
   of-host = search settled;
   of-host-looks = search settled;

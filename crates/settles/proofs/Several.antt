@@ -6,9 +6,6 @@ use Rattle.memory.proofs.tables.prg_place.Reads as memory-prg-place
 use Rattle.steps.proofs.cpu_side.store.Reads as steps-store
 use Rattle.steps.proofs.ppu_side.count_fetch.Reads as steps-count-fetch
 use Rattle.calls.specs.Lent.{memLeft}
-use Rattle.words.proofs.groups.put_detector.Reads as words-put-detector
-use Rattle.words.proofs.groups.put_region.Reads as words-put-region
-use Rattle.words.proofs.groups.put_tiles.Reads as words-put-tiles
 use Rattle.settles.specs.Settled.{Result, Settles, beside}
 use Rattle.settles.specs.ByHand.{clock-lent, new, advanced}
 use Rattle.settles.proofs.Law.{settled, both}
@@ -24,15 +21,6 @@ step-stored κ a r r' e e' p q = settled (p []) (q [])
 
 pub counted : Result steps-count-fetch.Learnt
 counted κ a r r' e e' p q = λ i. record { irq = settled (p .0) (q .0) i; ppu = settled (p .1 .0) (q .1 .0) i; vsplit = settled (p .1 .1) (q .1 .1) i }
-
-pub detector-put : Settles words-put-detector.Learnt (λ κ a r e. beside (now (e .1 .0)) (now (e .1 .1 .0)))
-detector-put κ a r r' e e' p q = both (settled (p .0) (q .0)) (settled (p .1) (q .1))
-
-pub region-put : Settles words-put-region.Learnt (λ κ a r e. beside (now (e .1 .0)) (now (e .1 .1 .0)))
-region-put κ a r r' e e' p q = both (settled (p .0) (q .0)) (settled (p .1) (q .1))
-
-pub tiles-put : Settles words-put-tiles.Learnt (λ κ a r e. beside (now (e .1 .0)) (now (e .1 .1 .0)))
-tiles-put κ a r r' e e' p q = both (settled (p .0) (q .0)) (settled (p .1) (q .1))
 
 pub clocked : Settles (clock-lent .Learnt) (λ κ a r e. beside r (now (e .0)))
 clocked κ a r r' e e' p q = both (settled (p .0) (q .0)) (settled (p .1) (q .1))

@@ -3,7 +3,7 @@
 -- Assumes nothing.
 use Rattle.settles.specs.Leaves.{Memory, Answers, Registers, Banks, Scanline, Split, State, Cpu, Ppu}
 use Rattle.settles.specs.Entries.{Board, BoardPpu, Views, Trace, Calls, Text, Logs, Steps, Player, Transcript}
-use Rattle.settles.specs.Hosts.{Words, Told, Host, HostLooks, HostReplay}
+use Rattle.settles.specs.Hosts.{HostState, Told, Host, HostLooks, HostReplay}
 use Rattle.settles.specs.ByHand.{ByHand}
 
 pub record EveryContract : Type 0 where
@@ -26,7 +26,7 @@ pub record EveryContract : Type 0 where
   pub of-steps : Steps
   pub of-player : Player
   pub of-transcript : Transcript
-  pub of-words : Words
+  pub of-host-state : HostState
   pub of-told : Told
   pub of-host : Host
   pub of-host-looks : HostLooks

@@ -1,49 +1,61 @@
 -- The contracts of the host's boundary, function by function, crate by crate: words read and put back, what is told, and the calls of the three
 -- static libraries. Of a call that takes words to change, every word is looked at; of one that takes memory to change, every byte too.
 -- Assumes nothing.
+use Prim.Native.Nat.{ℕ}
+use mathlib.Core.List.{List}
 use denote.Ref.{now}
-use Rattle.words.specs.Words.{Words as AllWords, wordsAt}
 use Rattle.host.specs.Hosted.{leftWords, leftMemory}
 use Rattle.host_looks.specs.Pages.{copiedOf}
 use Rattle.host_replay.specs.Replays.{leftReplay}
-use Rattle.words.proofs.gate.passed.Reads as words-passed
-use Rattle.words.proofs.groups.known.Reads as words-known
-use Rattle.words.proofs.groups.put_detector.Reads as words-put-detector
-use Rattle.words.proofs.groups.put_region.Reads as words-put-region
-use Rattle.words.proofs.groups.put_set.Reads as words-put-set
-use Rattle.words.proofs.groups.put_tiles.Reads as words-put-tiles
-use Rattle.words.proofs.put.number_of_mirroring.Reads as words-number-of-mirroring
-use Rattle.words.proofs.put.put_state.Reads as words-put-state
-use Rattle.words.proofs.ranges.chr_numbers_ok.Reads as words-chr-numbers-ok
-use Rattle.words.proofs.ranges.prg_numbers_ok.Reads as words-prg-numbers-ok
-use Rattle.words.proofs.ranges.words_in_range.Reads as words-in-range
-use Rattle.words.proofs.read.detector_of.Reads as words-detector-of
-use Rattle.words.proofs.read.is_good.Reads as words-is-good
-use Rattle.words.proofs.read.lengths_of.Reads as words-lengths-of
-use Rattle.words.proofs.read.mirroring_numbered.Reads as words-mirroring-numbered
-use Rattle.words.proofs.read.regs_of.Reads as words-regs-of
-use Rattle.words.proofs.read.split_of.Reads as words-split-of
-use Rattle.words.proofs.read.state_of.Reads as words-state-of
-use Rattle.words.proofs.read.status_of.Reads as words-status-of
-use Rattle.words.proofs.tables.chr_numbers.Reads as words-chr-numbers
-use Rattle.words.proofs.tables.chr_table.Reads as words-chr-table
-use Rattle.words.proofs.tables.chr_word.Reads as words-chr-word
-use Rattle.words.proofs.tables.prg_numbers.Reads as words-prg-numbers
-use Rattle.words.proofs.tables.prg_table.Reads as words-prg-table
-use Rattle.words.proofs.tables.prg_word.Reads as words-prg-word
-use Rattle.told.proofs.if_good.Reads as told-if-good
+use Rattle.host_state.proofs.gate.in_range.Reads as host-state-in-range
+use Rattle.host_state.proofs.gate.passed.Reads as host-state-passed
+use Rattle.host_state.proofs.groups.put_regs.Reads as host-state-put-regs
+use Rattle.host_state.proofs.groups.put_region.Reads as host-state-put-region
+use Rattle.host_state.proofs.groups.put_split.Reads as host-state-put-split
+use Rattle.host_state.proofs.groups.put_detector.Reads as host-state-put-detector
+use Rattle.host_state.proofs.groups.put_tiles.Reads as host-state-put-tiles
+use Rattle.host_state.proofs.groups.put_set.Reads as host-state-put-set
+use Rattle.host_state.proofs.groups.put_status.Reads as host-state-put-status
+use Rattle.host_state.proofs.groups.number_of_mirroring.Reads as host-state-number-of-mirroring
+use Rattle.host_state.proofs.groups.put_mirroring.Reads as host-state-put-mirroring
+use Rattle.host_state.proofs.groups.put_prg_banks.Reads as host-state-put-prg-banks
+use Rattle.host_state.proofs.groups.put_chr_banks.Reads as host-state-put-chr-banks
+use Rattle.host_state.proofs.groups.put_exram_word.Reads as host-state-put-exram-word
+use Rattle.host_state.proofs.groups.put_lengths.Reads as host-state-put-lengths
+use Rattle.host_state.proofs.limits.sized.Reads as host-state-limits-sized
+use Rattle.host_state.proofs.limits.within_limits.Reads as host-state-within-limits
+use Rattle.host_state.proofs.read.mirroring_numbered.Reads as host-state-mirroring-numbered
+use Rattle.host_state.proofs.read.lengths_of.Reads as host-state-lengths-of
+use Rattle.host_state.proofs.read.regs_of.Reads as host-state-regs-of
+use Rattle.host_state.proofs.read.split_of.Reads as host-state-split-of
+use Rattle.host_state.proofs.read.detector_of.Reads as host-state-detector-of
+use Rattle.host_state.proofs.read.status_of.Reads as host-state-status-of
+use Rattle.host_state.proofs.read.mirroring_of.Reads as host-state-mirroring-of
+use Rattle.host_state.proofs.read.prg_banks_of.Reads as host-state-prg-banks-of
+use Rattle.host_state.proofs.read.chr_banks_of.Reads as host-state-chr-banks-of
+use Rattle.host_state.proofs.tables.sized.Reads as host-state-tables-sized
+use Rattle.host_state.proofs.tables.prg_ok.Reads as host-state-prg-ok
+use Rattle.host_state.proofs.tables.chr_ok.Reads as host-state-chr-ok
+use Rattle.host_state.proofs.tables.prg_word.Reads as host-state-prg-word
+use Rattle.host_state.proofs.tables.chr_word.Reads as host-state-chr-word
+use Rattle.host_state.proofs.tables.prg_table.Reads as host-state-prg-table
+use Rattle.host_state.proofs.tables.chr_table.Reads as host-state-chr-table
+use Rattle.host_state.proofs.tables.put_prg_table.Reads as host-state-put-prg-table
+use Rattle.host_state.proofs.tables.put_chr_table.Reads as host-state-put-chr-table
+use Rattle.host_state.proofs.whole.state_of.Reads as host-state-state-of
+use Rattle.host_state.proofs.whole.put_state.Reads as host-state-put-state
 use Rattle.told.proofs.interrupt.Reads as told-interrupt
 use Rattle.told.proofs.mirroring.Reads as told-mirroring
 use Rattle.told.proofs.plain.Reads as told-plain
 use Rattle.told.proofs.with_interrupt.Reads as told-with-interrupt
 use Rattle.host.proofs.clocks.mmc5_clock.Reads as host-clock
-use Rattle.host.proofs.cpu_side.mmc5_cpu_write.Reads as host-cpu-write
+use Rattle.host.proofs.writes.mmc5_cpu_write.Reads as host-cpu-write
 use Rattle.host.proofs.fetches.mmc5_ppu_fetch.Reads as host-ppu-fetch
 use Rattle.host.proofs.loads.mmc5_load.Reads as host-load
-use Rattle.host.proofs.ppu_side.mmc5_ppu_write.Reads as host-ppu-write
+use Rattle.host.proofs.ppu_writes.mmc5_ppu_write.Reads as host-ppu-write
 use Rattle.host.proofs.reads.mmc5_cpu_read.Reads as host-cpu-read
-use Rattle.host.proofs.whole.mmc5_ppu_register.Reads as host-ppu-register
-use Rattle.host.proofs.whole.mmc5_reset.Reads as host-reset
+use Rattle.host.proofs.ppu_registers.mmc5_ppu_register.Reads as host-ppu-register
+use Rattle.host.proofs.resets.mmc5_reset.Reads as host-reset
 use Rattle.host_looks.proofs.pages.mmc5_cpu_entry.Reads as host-looks-cpu-entry
 use Rattle.host_looks.proofs.pages.mmc5_cpu_page.Reads as host-looks-cpu-page
 use Rattle.host_looks.proofs.pages.mmc5_ppu_entry.Reads as host-looks-ppu-entry
@@ -57,42 +69,53 @@ use Rattle.host_replay.proofs.mmc5_replay.Reads as host-replay-replay
 use Rattle.calls.specs.Lent.{BufferThen, memLeft}
 use Rattle.settles.specs.Settled.{Result, Settles, beside}
 
--- A call's first seven parameters are the arrays of words: a look at them, and what comes behind them.
-abbrev pub wordsLeft : {X : Type 0} → BufferThen (BufferThen (BufferThen (BufferThen (BufferThen (BufferThen (BufferThen X)))))) → AllWords
-wordsLeft e = wordsAt (now (e .0)) (now (e .1 .0)) (now (e .1 .1 .0)) (now (e .1 .1 .1 .0)) (now (e .1 .1 .1 .1 .0)) (now (e .1 .1 .1 .1 .1 .0)) (now (e .1 .1 .1 .1 .1 .1 .0))
+-- A call's first parameter is the array of words: a look at it, and what comes behind it.
+abbrev pub wordsLeft : {X : Type 0} → BufferThen X → List ℕ
+wordsLeft e = now (e .0)
 
-abbrev pub behindWords : {X : Type 0} → BufferThen (BufferThen (BufferThen (BufferThen (BufferThen (BufferThen (BufferThen X)))))) → X
-behindWords e = e .1 .1 .1 .1 .1 .1 .1
+abbrev pub behindWords : {X : Type 0} → BufferThen X → X
+behindWords e = e .1
 
-pub record Words : Type 0 where
-  pub passed : Result words-passed.Learnt
-  pub known : Result words-known.Learnt
-  pub put-detector : Settles words-put-detector.Learnt (λ κ a r e. beside (now (e .1 .0)) (now (e .1 .1 .0)))
-  pub put-region : Settles words-put-region.Learnt (λ κ a r e. beside (now (e .1 .0)) (now (e .1 .1 .0)))
-  pub put-set : Settles words-put-set.Learnt (λ κ a r e. now (e .1 .0))
-  pub put-tiles : Settles words-put-tiles.Learnt (λ κ a r e. beside (now (e .1 .0)) (now (e .1 .1 .0)))
-  pub number-of-mirroring : Result words-number-of-mirroring.Learnt
-  pub put-state : Settles words-put-state.Learnt (λ κ a r e. wordsLeft (e .1))
-  pub chr-numbers-ok : Result words-chr-numbers-ok.Learnt
-  pub prg-numbers-ok : Result words-prg-numbers-ok.Learnt
-  pub in-range : Result words-in-range.Learnt
-  pub detector-of : Result words-detector-of.Learnt
-  pub is-good : Result words-is-good.Learnt
-  pub lengths-of : Result words-lengths-of.Learnt
-  pub mirroring-numbered : Result words-mirroring-numbered.Learnt
-  pub regs-of : Result words-regs-of.Learnt
-  pub split-of : Result words-split-of.Learnt
-  pub state-of : Result words-state-of.Learnt
-  pub status-of : Result words-status-of.Learnt
-  pub chr-numbers : Result words-chr-numbers.Learnt
-  pub chr-table : Result words-chr-table.Learnt
-  pub chr-word : Result words-chr-word.Learnt
-  pub prg-numbers : Result words-prg-numbers.Learnt
-  pub prg-table : Result words-prg-table.Learnt
-  pub prg-word : Result words-prg-word.Learnt
+pub record HostState : Type 0 where
+  pub in-range : Result host-state-in-range.Learnt
+  pub passed : Result host-state-passed.Learnt
+  pub put-regs : Settles host-state-put-regs.Learnt (λ κ a r e. wordsLeft (e .1))
+  pub put-region : Settles host-state-put-region.Learnt (λ κ a r e. wordsLeft (e .1))
+  pub put-split : Settles host-state-put-split.Learnt (λ κ a r e. wordsLeft (e .1))
+  pub put-detector : Settles host-state-put-detector.Learnt (λ κ a r e. wordsLeft (e .1))
+  pub put-tiles : Settles host-state-put-tiles.Learnt (λ κ a r e. wordsLeft (e .1))
+  pub put-set : Settles host-state-put-set.Learnt (λ κ a r e. wordsLeft (e .1))
+  pub put-status : Settles host-state-put-status.Learnt (λ κ a r e. wordsLeft (e .1))
+  pub number-of-mirroring : Result host-state-number-of-mirroring.Learnt
+  pub put-mirroring : Settles host-state-put-mirroring.Learnt (λ κ a r e. wordsLeft (e .1))
+  pub put-prg-banks : Settles host-state-put-prg-banks.Learnt (λ κ a r e. wordsLeft (e .1))
+  pub put-chr-banks : Settles host-state-put-chr-banks.Learnt (λ κ a r e. wordsLeft (e .1))
+  pub put-exram-word : Settles host-state-put-exram-word.Learnt (λ κ a r e. wordsLeft (e .1))
+  pub put-lengths : Settles host-state-put-lengths.Learnt (λ κ a r e. wordsLeft (e .1))
+  pub limits-sized : Result host-state-limits-sized.Learnt
+  pub within-limits : Result host-state-within-limits.Learnt
+  pub mirroring-numbered : Result host-state-mirroring-numbered.Learnt
+  pub lengths-of : Result host-state-lengths-of.Learnt
+  pub regs-of : Result host-state-regs-of.Learnt
+  pub split-of : Result host-state-split-of.Learnt
+  pub detector-of : Result host-state-detector-of.Learnt
+  pub status-of : Result host-state-status-of.Learnt
+  pub mirroring-of : Result host-state-mirroring-of.Learnt
+  pub prg-banks-of : Result host-state-prg-banks-of.Learnt
+  pub chr-banks-of : Result host-state-chr-banks-of.Learnt
+  pub tables-sized : Result host-state-tables-sized.Learnt
+  pub prg-ok : Result host-state-prg-ok.Learnt
+  pub chr-ok : Result host-state-chr-ok.Learnt
+  pub prg-word : Result host-state-prg-word.Learnt
+  pub chr-word : Result host-state-chr-word.Learnt
+  pub prg-table : Result host-state-prg-table.Learnt
+  pub chr-table : Result host-state-chr-table.Learnt
+  pub put-prg-table : Settles host-state-put-prg-table.Learnt (λ κ a r e. wordsLeft (e .1))
+  pub put-chr-table : Settles host-state-put-chr-table.Learnt (λ κ a r e. wordsLeft (e .1))
+  pub state-of : Result host-state-state-of.Learnt
+  pub put-state : Settles host-state-put-state.Learnt (λ κ a r e. wordsLeft (e .1))
 
 pub record Told : Type 0 where
-  pub if-good : Result told-if-good.Learnt
   pub interrupt : Result told-interrupt.Learnt
   pub mirroring : Result told-mirroring.Learnt
   pub plain : Result told-plain.Learnt

@@ -74,6 +74,7 @@ use Rattle.split.proofs.region.scroll_of.Reads as split-scroll-of
 use Rattle.split.proofs.region.moved.Reads as split-moved
 use Rattle.state.proofs.gate.passed.Reads as state-passed
 use Rattle.state.proofs.ranges.in_range.Reads as state-in-range
+use Rattle.state.proofs.gate.same_lengths.Reads as state-same-lengths
 use Rattle.state.proofs.sizes.prg_taken.Reads as state-prg-taken
 use Rattle.state.proofs.sizes.chr_taken.Reads as state-chr-taken
 use Rattle.state.proofs.sizes.ram_taken.Reads as state-ram-taken
@@ -193,6 +194,7 @@ pub record Split : Type 0 where
 pub record State : Type 0 where
   pub passed : Result state-passed.Learnt
   pub in-range : Result state-in-range.Learnt
+  pub same-lengths : Result state-same-lengths.Learnt
   pub prg-taken : Result state-prg-taken.Learnt
   pub chr-taken : Result state-chr-taken.Learnt
   pub ram-taken : Result state-ram-taken.Learnt

@@ -43,3 +43,16 @@ range-lengths s h = conj-at (ranges s) 0 h
 pub passes : (s : State) (p c r i e : ℕ) → inRange s ≡ true → sameLengths (s .lengths) p c r i e ≡ true → gateOf s p c r i e ≡ Open
 unfolding gateOf
 passes s p c r i e h k = rw (k, h, lengths-say (s .lengths) (range-lengths s h) .is-loaded)
+
+-- A state that does not pass, by the first test that fails.
+pub shut-load : (s : State) (p c r i e : ℕ) → not (s .lengths .loaded) ≡ true → gateOf s p c r i e ≡ Shut StateBroken
+unfolding gateOf
+shut-load s p c r i e t = rw t
+
+pub shut-lengths : (s : State) (p c r i e : ℕ) → not (s .lengths .loaded) ≡ false → not (sameLengths (s .lengths) p c r i e) ≡ true → gateOf s p c r i e ≡ Shut Buffers
+unfolding gateOf
+shut-lengths s p c r i e l t = rw (l, t)
+
+pub shut-ranges : (s : State) (p c r i e : ℕ) → not (s .lengths .loaded) ≡ false → not (sameLengths (s .lengths) p c r i e) ≡ false → inRange s ≡ false → gateOf s p c r i e ≡ Shut StateBroken
+unfolding gateOf
+shut-ranges s p c r i e l t f = rw (l, t, f)

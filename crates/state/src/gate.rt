@@ -12,7 +12,14 @@ pub enum Gate {
 }
 
 // The lent lengths are those recorded.
-fn same_lengths(z: Lengths, prg: usize, chr: usize, ram: usize, ciram: usize, exram: usize) -> bool
+pub fn same_lengths(
+    z: Lengths,
+    prg: usize,
+    chr: usize,
+    ram: usize,
+    ciram: usize,
+    exram: usize,
+) -> bool
     ensures { λ r. ⌜ r ≡ sameLengths z prg chr ram ciram exram ⌝ }
 {
     (z.prg as usize == prg)

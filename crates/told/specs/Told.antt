@@ -4,7 +4,6 @@ use mathlib.Core.Bool.{Bool, _&&_, not}
 use Rattle.memory.specs.Words.{pick}
 use Rattle.answers.specs.declared.Answer.{Answer}
 use Rattle.answers.specs.declared.Answer.the-variants.{Refused}
-use Rattle.answers.specs.declared.Refusal.the-variants.{State as StateBroken}
 use Rattle.answers.specs.Letters.{letterOf, valueOf}
 use Rattle.answers.specs.Refused.{isRefused}
 use Rattle.board.specs.declared.Interrupt.{Interrupt}
@@ -13,15 +12,11 @@ use Rattle.board.specs.declared.Told.{Told}
 use Rattle.board.specs.declared.Told.the-variants.{Is, Refused as MirroringRefused}
 use Rattle.scanline.specs.declared.Detector.{Detector}
 use Rattle.scanline.specs.Steps.{interruptUp}
-use Rattle.words.specs.Words.{numberOfMirroring}
+use Rattle.host_state.specs.Words.{numberOfMirroring}
 
 -- The letter that 01 prints for the answer, times 256, and the answer's value; a refusal is `!` and its number.
 abbrev pub toldPlain : Answer → ℕ
 toldPlain a = letterOf a * 256 + valueOf a
-
--- The number that words which are no state are answered with.
-abbrev pub noState : ℕ
-noState = toldPlain (Refused StateBroken)
 
 -- A call that was taken, not refused.
 abbrev pub taken : Answer → Bool

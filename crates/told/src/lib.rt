@@ -1,21 +1,10 @@
 // What the host is told, as one number: the part that the static libraries of the single calls and of the looks share.
 ghost use mathlib.Core.Path.{_≡_};
-ghost use Rattle.memory.specs.Words.{pick};
-ghost use Rattle.told.specs.Told.{noState, toldPlain, taken, toldWith, mirroringTold, interruptTold};
+ghost use Rattle.told.specs.Told.{toldPlain, taken, toldWith, mirroringTold, interruptTold};
 use answers::Answer;
 use board::Interrupt;
 use board::Told;
 use scanline::Detector;
-
-// Words that are no state: `!` and 5.
-pub const NO_STATE: u32 = 8453;
-
-// What is told over lent words, if they are a state.
-pub fn if_good(good: bool, number: u32) -> u32
-    ensures { λ r. ⌜ r ≡ pick good number noState ⌝ }
-{
-    if good { number } else { NO_STATE }
-}
 
 // The letter's code times 256, and the value.
 pub fn plain(answer: Answer) -> u32
@@ -58,7 +47,7 @@ pub fn mirroring(told: Told) -> u32
     ensures { λ r. ⌜ r ≡ mirroringTold told ⌝ }
 {
     match told {
-        Told::Is(m) => words::put::number_of_mirroring(m) as u32,
+        Told::Is(m) => host_state::groups::number_of_mirroring(m) as u32,
         Told::Refused(r) => plain(Answer::Refused(r)),
     }
 }

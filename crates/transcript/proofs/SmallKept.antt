@@ -101,7 +101,7 @@ written-small g a v k h =
       multiplier = pick-keeps Small (eqb a 0x5206) k (h .multiplier);
     }
 
-split-after-small : (s : VSplit) (a v : ℕ) → v < 256 → SmallSplit s → SmallSplit (splitAfter s a v)
+pub split-after-small : (s : VSplit) (a v : ℕ) → v < 256 → SmallSplit s → SmallSplit (splitAfter s a v)
 unfolding splitAfter
 split-after-small s a v k h =
     pick-keeps SmallSplit (eqb a 0x5200) (record { mode = k; scroll = h .scroll; bank = h .bank })
@@ -115,11 +115,11 @@ irq-after-small : (d : Detector) (a v : ℕ) → v < 256 → SmallLine d → Sma
 unfolding irqAfter
 irq-after-small d a v k h = pick-keeps SmallLine (eqb a 0x5203) k (pick-keeps SmallLine (eqb a 0x5204) h h)
 
-prg-banks-small : (b : List ℕ) (a v : ℕ) → v < 256 → Bytes b → Bytes (prgBanksAfter b a v)
+pub prg-banks-small : (b : List ℕ) (a v : ℕ) → v < 256 → Bytes b → Bytes (prgBanksAfter b a v)
 unfolding prgBanksAfter
 prg-banks-small b a v k h = pick-keeps Bytes (within 0x5113 0x5117 a) (set-bytes b (a - 0x5113) v k h) h
 
-chr-banks-small : (b : List ℕ) (a v : ℕ) → v < 256 → Bytes b → Bytes (chrBanksAfter b a v)
+pub chr-banks-small : (b : List ℕ) (a v : ℕ) → v < 256 → Bytes b → Bytes (chrBanksAfter b a v)
 unfolding chrBanksAfter
 chr-banks-small b a v k h =
     pick-keeps Bytes (within 0x5120 0x5127 a) (set-bytes b (a - 0x5120) v k h)
@@ -153,7 +153,7 @@ refused-small s why h = (omega (arith, numbered .most why), h)
 unstored : (o : Outcome) (m : Mem) → SmallOut o → SmallMem m → SmallAfter (afterOf o m)
 unstored o m h k = record { answer = h .0; state = h .1; mem = k }
 
-behind-keeps : {A : Type 0} (P : A → Type 0) (g : Gate) (f : Refusal → A) (x : A) → ((why : Refusal) → P (f why)) → P x → P (behind g f x)
+pub behind-keeps : {A : Type 0} (P : A → Type 0) (g : Gate) (f : Refusal → A) (x : A) → ((why : Refusal) → P (f why)) → P x → P (behind g f x)
 behind-keeps P Open f x r h = h
 behind-keeps P (Shut why) f x r h = r why
 
@@ -208,7 +208,7 @@ name-small : (v : VSplit) (column : ℕ) (first : Bool) (scroll : ℕ) → Small
 unfolding afterName
 name-small v column first scroll h = record { mode = h .mode; scroll = h .scroll; bank = h .bank }
 
-seen-small : (g : Regs) (v : VSplit) (d : Detector) (tiles a : ℕ) → SmallSplit v → SmallSplit (splitSeen g v d tiles a)
+pub seen-small : (g : Regs) (v : VSplit) (d : Detector) (tiles a : ℕ) → SmallSplit v → SmallSplit (splitSeen g v d tiles a)
 unfolding splitSeen
 seen-small g v d tiles a h =
     pick-keeps SmallSplit (nameAt a && splitActive v (nametableUse g) (d .«in_frame»)) (name-small v _ _ _ h) h

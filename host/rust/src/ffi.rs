@@ -2,13 +2,7 @@
 
 unsafe extern "C" {
     pub fn mmc5_load(
-        bytes: *mut u8,
-        halves: *mut u16,
-        wide: *mut u32,
-        prg_banks: *mut u8,
-        chr_banks: *mut u8,
-        prg_pages: *mut u16,
-        chr_pages: *mut u16,
+        words: *mut [u16; 144],
         prg: *const u8,
         prg_len: usize,
         chr: *const u8,
@@ -23,13 +17,7 @@ unsafe extern "C" {
         mirroring: u8,
     ) -> u32;
     pub fn mmc5_cpu_read(
-        bytes: *mut u8,
-        halves: *mut u16,
-        wide: *mut u32,
-        prg_banks: *mut u8,
-        chr_banks: *mut u8,
-        prg_pages: *mut u16,
-        chr_pages: *mut u16,
+        words: *mut [u16; 144],
         prg: *const u8,
         prg_len: usize,
         chr: *const u8,
@@ -43,13 +31,7 @@ unsafe extern "C" {
         addr: u16,
     ) -> u32;
     pub fn mmc5_cpu_peek(
-        bytes: *const u8,
-        halves: *const u16,
-        wide: *const u32,
-        prg_banks: *const u8,
-        chr_banks: *const u8,
-        prg_pages: *const u16,
-        chr_pages: *const u16,
+        words: *const [u16; 144],
         prg: *const u8,
         prg_len: usize,
         chr: *const u8,
@@ -63,13 +45,7 @@ unsafe extern "C" {
         addr: u16,
     ) -> u32;
     pub fn mmc5_cpu_write(
-        bytes: *mut u8,
-        halves: *mut u16,
-        wide: *mut u32,
-        prg_banks: *mut u8,
-        chr_banks: *mut u8,
-        prg_pages: *mut u16,
-        chr_pages: *mut u16,
+        words: *mut [u16; 144],
         prg: *const u8,
         prg_len: usize,
         chr: *mut u8,
@@ -84,13 +60,7 @@ unsafe extern "C" {
         val: u8,
     ) -> u32;
     pub fn mmc5_ppu_fetch(
-        bytes: *mut u8,
-        halves: *mut u16,
-        wide: *mut u32,
-        prg_banks: *mut u8,
-        chr_banks: *mut u8,
-        prg_pages: *mut u16,
-        chr_pages: *mut u16,
+        words: *mut [u16; 144],
         prg: *const u8,
         prg_len: usize,
         chr: *const u8,
@@ -104,13 +74,7 @@ unsafe extern "C" {
         addr: u16,
     ) -> u32;
     pub fn mmc5_ppu_peek(
-        bytes: *const u8,
-        halves: *const u16,
-        wide: *const u32,
-        prg_banks: *const u8,
-        chr_banks: *const u8,
-        prg_pages: *const u16,
-        chr_pages: *const u16,
+        words: *const [u16; 144],
         prg: *const u8,
         prg_len: usize,
         chr: *const u8,
@@ -124,13 +88,7 @@ unsafe extern "C" {
         addr: u16,
     ) -> u32;
     pub fn mmc5_sprite_peek(
-        bytes: *const u8,
-        halves: *const u16,
-        wide: *const u32,
-        prg_banks: *const u8,
-        chr_banks: *const u8,
-        prg_pages: *const u16,
-        chr_pages: *const u16,
+        words: *const [u16; 144],
         prg: *const u8,
         prg_len: usize,
         chr: *const u8,
@@ -144,13 +102,7 @@ unsafe extern "C" {
         addr: u16,
     ) -> u32;
     pub fn mmc5_ppu_write(
-        bytes: *mut u8,
-        halves: *mut u16,
-        wide: *mut u32,
-        prg_banks: *mut u8,
-        chr_banks: *mut u8,
-        prg_pages: *mut u16,
-        chr_pages: *mut u16,
+        words: *mut [u16; 144],
         prg: *const u8,
         prg_len: usize,
         chr: *mut u8,
@@ -164,81 +116,15 @@ unsafe extern "C" {
         addr: u16,
         val: u8,
     ) -> u32;
-    pub fn mmc5_ppu_register(
-        bytes: *mut u8,
-        halves: *mut u16,
-        wide: *mut u32,
-        prg_banks: *mut u8,
-        chr_banks: *mut u8,
-        prg_pages: *mut u16,
-        chr_pages: *mut u16,
-        addr: u16,
-        val: u8,
-    ) -> u32;
-    pub fn mmc5_clock(
-        bytes: *mut u8,
-        halves: *mut u16,
-        wide: *mut u32,
-        prg_banks: *mut u8,
-        chr_banks: *mut u8,
-        prg_pages: *mut u16,
-        chr_pages: *mut u16,
-    ) -> u32;
-    pub fn mmc5_reset(
-        bytes: *mut u8,
-        halves: *mut u16,
-        wide: *mut u32,
-        prg_banks: *mut u8,
-        chr_banks: *mut u8,
-        prg_pages: *mut u16,
-        chr_pages: *mut u16,
-    ) -> u32;
-    pub fn mmc5_mirroring(
-        bytes: *const u8,
-        halves: *const u16,
-        wide: *const u32,
-        prg_banks: *const u8,
-        chr_banks: *const u8,
-        prg_pages: *const u16,
-        chr_pages: *const u16,
-    ) -> u32;
-    pub fn mmc5_interrupt(
-        bytes: *const u8,
-        halves: *const u16,
-        wide: *const u32,
-        prg_banks: *const u8,
-        chr_banks: *const u8,
-        prg_pages: *const u16,
-        chr_pages: *const u16,
-    ) -> u32;
-    pub fn mmc5_cpu_entry(
-        bytes: *const u8,
-        halves: *const u16,
-        wide: *const u32,
-        prg_banks: *const u8,
-        chr_banks: *const u8,
-        prg_pages: *const u16,
-        chr_pages: *const u16,
-        addr: u16,
-    ) -> u32;
-    pub fn mmc5_ppu_entry(
-        bytes: *const u8,
-        halves: *const u16,
-        wide: *const u32,
-        prg_banks: *const u8,
-        chr_banks: *const u8,
-        prg_pages: *const u16,
-        chr_pages: *const u16,
-        addr: u16,
-    ) -> u32;
+    pub fn mmc5_ppu_register(words: *mut [u16; 144], addr: u16, val: u8) -> u32;
+    pub fn mmc5_clock(words: *mut [u16; 144]) -> u32;
+    pub fn mmc5_reset(words: *mut [u16; 144]) -> u32;
+    pub fn mmc5_mirroring(words: *const [u16; 144]) -> u32;
+    pub fn mmc5_interrupt(words: *const [u16; 144]) -> u32;
+    pub fn mmc5_cpu_entry(words: *const [u16; 144], addr: u16) -> u32;
+    pub fn mmc5_ppu_entry(words: *const [u16; 144], addr: u16) -> u32;
     pub fn mmc5_cpu_page(
-        bytes: *const u8,
-        halves: *const u16,
-        wide: *const u32,
-        prg_banks: *const u8,
-        chr_banks: *const u8,
-        prg_pages: *const u16,
-        chr_pages: *const u16,
+        words: *const [u16; 144],
         prg: *const u8,
         prg_len: usize,
         chr: *const u8,
@@ -254,13 +140,7 @@ unsafe extern "C" {
         out_len: usize,
     ) -> u32;
     pub fn mmc5_ppu_page(
-        bytes: *const u8,
-        halves: *const u16,
-        wide: *const u32,
-        prg_banks: *const u8,
-        chr_banks: *const u8,
-        prg_pages: *const u16,
-        chr_pages: *const u16,
+        words: *const [u16; 144],
         prg: *const u8,
         prg_len: usize,
         chr: *const u8,
@@ -276,13 +156,7 @@ unsafe extern "C" {
         out_len: usize,
     ) -> u32;
     pub fn mmc5_replay(
-        bytes: *mut u8,
-        halves: *mut u16,
-        wide: *mut u32,
-        prg_banks: *mut u8,
-        chr_banks: *mut u8,
-        prg_pages: *mut u16,
-        chr_pages: *mut u16,
+        words: *mut [u16; 144],
         prg: *const u8,
         prg_len: usize,
         chr: *mut u8,

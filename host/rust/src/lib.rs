@@ -5,18 +5,13 @@
 //! is lent here. So nothing in this crate has to be believed but the pointers and lengths that it hands on.
 
 mod ffi;
+pub mod words;
 
-/// The state, as plain words. `docs/HOST.md` says which is which; the server may copy and store them.
+/// The state, as plain words. [`words`] says which is which; the server may copy and store them.
 #[repr(C)]
 #[derive(Clone, Debug, PartialEq, Eq)]
 pub struct State {
-    pub wide: [u32; 6],
-    pub prg_pages: [u16; 64],
-    pub chr_pages: [u16; 16],
-    pub halves: [u16; 5],
-    pub bytes: [u8; 33],
-    pub prg_banks: [u8; 5],
-    pub chr_banks: [u8; 16],
+    pub words: [u16; words::COUNT],
 }
 
 /// The five buffers. PRG-ROM is only read.
@@ -109,23 +104,13 @@ fn number_or_refusal(number: u32) -> Result<u8, u8> {
     }
 }
 
-/// The lent words, as pointers.
+/// The lent words, as a pointer.
 macro_rules! on {
     ($name:ident, mut $s:expr $(, $more:expr)*) => {
-        unsafe {
-            ffi::$name(
-                $s.bytes.as_mut_ptr(), $s.halves.as_mut_ptr(), $s.wide.as_mut_ptr(), $s.prg_banks.as_mut_ptr(),
-                $s.chr_banks.as_mut_ptr(), $s.prg_pages.as_mut_ptr(), $s.chr_pages.as_mut_ptr() $(, $more)*
-            )
-        }
+        unsafe { ffi::$name(&raw mut $s.words $(, $more)*) }
     };
     ($name:ident, $s:expr $(, $more:expr)*) => {
-        unsafe {
-            ffi::$name(
-                $s.bytes.as_ptr(), $s.halves.as_ptr(), $s.wide.as_ptr(), $s.prg_banks.as_ptr(),
-                $s.chr_banks.as_ptr(), $s.prg_pages.as_ptr(), $s.chr_pages.as_ptr() $(, $more)*
-            )
-        }
+        unsafe { ffi::$name(&raw const $s.words $(, $more)*) }
     };
 }
 
@@ -152,15 +137,7 @@ macro_rules! writing {
 impl State {
     /// A state that is not loaded: every call but load refuses it with 5.
     pub const fn zero() -> Self {
-        Self {
-            wide: [0; 6],
-            prg_pages: [0; 64],
-            chr_pages: [0; 16],
-            halves: [0; 5],
-            bytes: [0; 33],
-            prg_banks: [0; 5],
-            chr_banks: [0; 16],
-        }
+        Self { words: [0; words::COUNT] }
     }
 
     /// Load over the five buffers, of which no byte is written. Mirroring: 0 Horizontal, 1 Vertical, 2 SingleScreenA, 3 SingleScreenB,

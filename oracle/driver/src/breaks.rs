@@ -1,116 +1,162 @@
-//! States with one range broken, words that are no state, and lent lengths that differ: every call and every replay refuses, and nothing
+//! States with one word or page out of range, and lent lengths that differ, alone and together: every call and every replay refuses, and nothing
 //! changes.
 
 use crate::{
-    pair::{Buffers, Pair},
-    replays, tiles,
+    pair::{self, Buffers, Pair},
+    replays,
 };
-use mmc5::{Answer, State, Stopped};
+use mmc5::{Answer, State, Stopped, words};
 use oracle::{
+    cartridge::Cartridge,
     generate::random::Random,
     trace::{LONGEST, Record},
 };
 
-/// Breaks one thing; tells its name and the refusal that calls over memory must give.
-fn broken(random: &mut Random, s: &mut State) -> (&'static str, u8) {
-    let chr_pages = (s.wide[1] / 1_024) as u16;
-    let ram_pages = (s.wide[2] / 1_024) as u16;
-    let prg_pages = (s.wide[0] / 1_024) as u16;
-    match random.below(22) {
+/// The most that each of the first 64 words may be.
+#[rustfmt::skip]
+const LIMITS: [u16; 64] = [
+    1, 1, 1, 1, 1, 1, 1, 1, 1, 1, 1, 1, 1, 1, 1,
+    4,
+    3, 3, 3, 3, 3, 255, 255, 3, 255, 255,
+    255, 31, 255, 255,
+    255, 2, 255,
+    3, 959, 65_535, 65_279, 1_023,
+    127, 1_024, 64, 83,
+    255, 255, 255, 255, 255,
+    255, 255, 255, 255, 255, 255, 255, 255, 255, 255, 255, 255, 255, 255, 255, 255,
+    0,
+];
+
+/// What a broken state must give: its name, the refusal of calls over memory, and that of the others (0: either way).
+type Broken = (&'static str, u8, u8);
+
+/// Puts a number above its limit into a word: the least, the greatest, one whose low byte is within the limit, or any.
+fn above(random: &mut Random, s: &mut State, place: usize) {
+    let limit = LIMITS[place];
+    s.words[place] = match random.below(4) {
+        0 => limit + 1,
+        1 => u16::MAX,
+        2 => random.from_to(limit / 256 + 1, 255) << 8 | random.from_to(0, limit.min(255)),
+        _ => random.from_to(limit + 1, u16::MAX),
+    };
+}
+
+/// Another recorded length: calls over memory give 4, and where it is above its limit the others give 5.
+fn other_length(random: &mut Random, s: &mut State, place: usize, name: &'static str) -> Broken {
+    if random.once_in(3) {
+        above(random, s, place);
+        return (name, 4, 5);
+    }
+    let other = random.from_to(0, LIMITS[place] - 1);
+    s.words[place] = other + u16::from(other >= s.words[place]);
+    (name, 4, 0)
+}
+
+/// Breaks one thing.
+fn broken(random: &mut Random, s: &mut State) -> Broken {
+    let prg_pages = 8 * (s.words[words::PRG_BANKS_LESS_ONE] + 1);
+    let chr_pages = s.words[words::CHR_KIB];
+    let ram_pages = s.words[words::RAM_KIB];
+    let prg_page = words::PRG_PAGES + random.below(64);
+    let chr_page = words::CHR_PAGES + random.below(16);
+    match random.below(24) {
         0 => {
-            s.bytes[random.below(15)] = 2 + random.byte() % 254;
-            ("flag", 5)
+            let flag = random.below(15);
+            above(random, s, flag);
+            ("flag", 5, 5)
         }
         1 => {
-            s.bytes[15] = 5 + random.byte() % 251;
-            ("mirroring", 5)
+            above(random, s, words::MIRRORING);
+            ("mirroring", 5, 5)
         }
         2 => {
-            s.bytes[0] = 0;
-            ("not loaded", 5)
+            s.words[words::LOADED] = 0;
+            ("not loaded", 5, 5)
         }
         3 => {
-            s.bytes[31] = 3 + random.byte() % 253;
-            ("idle count", 5)
+            above(random, s, words::IDLE_COUNT);
+            ("idle count", 5, 5)
         }
         4 => {
-            let mode = random.pick(&[16, 17, 20, 23]);
-            s.bytes[mode] = 4 + random.byte() % 252;
-            ("mode or fill attribute", 5)
+            let mode = random.pick(&[words::PRG_MODE, words::CHR_MODE, words::EXRAM_MODE, words::FILL_ATTRIBUTE]);
+            above(random, s, mode);
+            ("mode or fill attribute", 5, 5)
         }
         5 => {
-            s.bytes[18 + random.below(2)] = 4 + random.byte() % 252;
-            ("protect byte", 5)
+            let protect = random.pick(&[words::PROTECT_A, words::PROTECT_B]);
+            above(random, s, protect);
+            ("protect byte", 5, 5)
         }
         6 => {
-            s.bytes[27] = 32 + random.byte() % 224;
-            ("split tile", 5)
+            above(random, s, words::SPLIT_TILE);
+            ("split tile", 5, 5)
         }
         7 => {
-            s.halves[1] = random.from_to(960, 65_535);
-            ("tile address", 5)
+            above(random, s, words::TILE_ADDRESS);
+            ("tile address", 5, 5)
         }
         8 => {
-            s.halves[4] = random.from_to(1_024, 65_535);
-            ("tile cache", 5)
+            above(random, s, words::TILE_CACHE);
+            ("tile cache", 5, 5)
         }
         9 => {
-            s.halves[0] = random.pick(&[1, 128, 255, 257, 769, 1_024, 65_280]);
-            ("chr_hi", 5)
+            // Its multiples of 256 among them, which the word does not hold.
+            s.words[words::CHR_HI] = random.pick(&[4, 128, 255, 256, 512, 768, 769, 1_024, 65_280, 65_535]);
+            ("chr_hi", 5, 5)
         }
         10 => {
-            s.halves[3] = random.from_to(65_280, 65_535);
-            ("line counter", 5)
+            above(random, s, words::LINE_COUNTER);
+            ("line counter", 5, 5)
         }
         11 => {
-            let above = 84 + (random.next() % (u64::from(u32::MAX) - 83)) as u32;
-            s.wide[5] = random.pick(&[84, tiles::REACH, u32::MAX, above]);
-            ("tile count", 5)
+            above(random, s, words::TILE_COUNT);
+            ("tile count", 5, 5)
         }
-        12 => {
-            let other = random.pick(&[8_192, 16_384, 0, 1, 1_056_768]);
-            s.wide[0] = if other == s.wide[0] { other + 8_192 } else { other };
-            ("PRG length", 4)
-        }
-        13 => {
-            s.wide[1] ^= random.pick(&[1_024, 1, 1 << 20]);
-            ("CHR length", 4)
-        }
-        14 => {
-            s.wide[2] ^= random.pick(&[1_024, 1, 1 << 16]);
-            ("PRG-RAM length", 4)
-        }
+        12 => other_length(random, s, words::PRG_BANKS_LESS_ONE, "PRG length"),
+        13 => other_length(random, s, words::CHR_KIB, "CHR length"),
+        14 => other_length(random, s, words::RAM_KIB, "PRG-RAM length"),
         15 => {
-            s.wide[3 + random.below(2)] ^= 1_024;
-            ("CIRAM or ExRAM length", 4)
+            above(random, s, words::SPARE);
+            ("spare word", 5, 5)
         }
         16 => {
-            s.prg_pages[random.below(64)] = 3 + prg_pages + random.below(1_000) as u16;
-            ("PRG page past PRG-ROM", 5)
+            s.words[prg_page] = 3 + prg_pages + random.below(1_000) as u16;
+            ("PRG page past PRG-ROM", 5, 5)
         }
         17 => {
-            s.prg_pages[random.below(64)] = u16::MAX - 2 * ram_pages - random.below(100) as u16;
-            ("PRG page past PRG-RAM", 5)
+            s.words[prg_page] = u16::MAX - 2 * ram_pages - random.below(100) as u16;
+            ("PRG page past PRG-RAM", 5, 5)
         }
         18 => {
-            s.chr_pages[random.below(16)] = 2_055 + chr_pages + random.below(1_000) as u16;
-            ("CHR page past CHR", 5)
+            s.words[chr_page] = 2_055 + chr_pages + random.below(1_000) as u16;
+            ("CHR page past CHR", 5, 5)
         }
         19 => {
-            s.chr_pages[random.below(16)] = 3 + random.below(1_024) as u16;
-            ("CHR page that shows PRG-ROM", 5)
+            s.words[chr_page] = 3 + random.below(1_024) as u16;
+            ("CHR page that shows PRG-ROM", 5, 5)
         }
         20 => {
-            s.prg_pages[random.below(64)] = 1_027 + random.below(1_028) as u16 + prg_pages;
-            ("PRG page that shows CHR", 5)
+            s.words[prg_page] = 1_027 + random.below(1_028) as u16 + prg_pages;
+            ("PRG page that shows CHR", 5, 5)
+        }
+        21 => {
+            let writable = s.words[words::CHR_WRITABLE] == 1;
+            s.words[chr_page] = if writable { 2_050 - chr_pages.min(1_023) - u16::from(chr_pages < 1_024) } else { 2_050 };
+            if writable && chr_pages >= 1_023 {
+                s.words[words::CHR_PAGES] = 1_026;
+            }
+            ("CHR page marked writable", 5, 5)
+        }
+        22 => {
+            let bank = random.from_to(words::PRG_BANKS as u16, words::SPARE as u16 - 1);
+            above(random, s, bank.into());
+            ("bank register", 5, 5)
         }
         _ => {
-            let writable = s.bytes[1] == 1;
-            s.chr_pages[random.below(16)] = if writable { 2_050 - chr_pages.min(1_023) - u16::from(chr_pages < 1_024) } else { 2_050 };
-            if writable && chr_pages >= 1_023 {
-                s.chr_pages[0] = 1_026;
-            }
-            ("CHR page marked writable", 5)
+            let bytes: Vec<usize> = (words::NAMETABLES..words::CHR_HI).filter(|&place| LIMITS[place] == 255).collect();
+            let byte = random.pick(&bytes);
+            above(random, s, byte);
+            ("byte", 5, 5)
         }
     }
 }
@@ -182,12 +228,10 @@ fn replay_refused(random: &mut Random, s: &State, buffers: &Buffers, name: &str,
     Ok(())
 }
 
-/// One broken state, and one wrong lent length.
+/// One broken state, one wrong lent length, and both: a lent length is asked after whether the state is loaded, and before every other range.
 pub fn compare(random: &mut Random, pair: &Pair, seen: &mut replays::Seen) -> Result<usize, String> {
     let mut s = pair.state.clone();
-    let (name, number) = broken(random, &mut s);
-    // A length that differs is refused with 4 by calls over memory; by the others with 5, if at all.
-    let memoryless = if number == 4 { 0 } else { 5 };
+    let (name, number, memoryless) = broken(random, &mut s);
     refused(random, &s, &pair.buffers, name, number, memoryless)?;
     replay_refused(random, &s, &pair.buffers, name, number, seen)?;
     let mut buffers = pair.buffers.clone();
@@ -199,5 +243,34 @@ pub fn compare(random: &mut Random, pair: &Pair, seen: &mut replays::Seen) -> Re
     }
     refused(random, &pair.state, &buffers, "lent length", 4, 0)?;
     replay_refused(random, &pair.state, &buffers, "lent length", 4, seen)?;
-    Ok(20)
+    let name = format!("lent length and {name}");
+    let number = if s.words[words::LOADED] == 1 { 4 } else { 5 };
+    refused(random, &s, &buffers, &name, number, memoryless)?;
+    replay_refused(random, &s, &buffers, &name, number, seen)?;
+    Ok(30)
+}
+
+/// Each word of the first 64 at its limit, where a clock is taken, and one above it, where every call refuses. The number of calls.
+pub fn limits() -> Result<u64, String> {
+    let pair = pair::load(Cartridge::default())?.ok_or("a good cartridge was refused")?;
+    let mut random = Random::new(1);
+    let mut calls = 0;
+    for (place, &limit) in LIMITS.iter().enumerate() {
+        let mut s = pair.state.clone();
+        s.words[place] = limit;
+        let told = s.clock();
+        if told.answer != Answer::None {
+            return Err(format!("word {place} at its limit {limit}: {:?}", told.answer));
+        }
+        calls += 1;
+        let Some(above) = limit.checked_add(1) else {
+            continue;
+        };
+        let mut s = pair.state.clone();
+        s.words[place] = above;
+        let length = [words::PRG_BANKS_LESS_ONE, words::CHR_KIB, words::RAM_KIB].contains(&place);
+        refused(&mut random, &s, &pair.buffers, &format!("word {place} of {above}"), if length { 4 } else { 5 }, 5)?;
+        calls += 10;
+    }
+    Ok(calls)
 }

@@ -1,7 +1,7 @@
 //! The two boards, and the comparison.
 
 use crate::tiles;
-use mmc5::{Answer as Told, Memory, State};
+use mmc5::{Answer as Told, Memory, State, words};
 use oracle::{
     board::{Answer, Board},
     cartridge::{BUFFERS, Cartridge, MIRRORINGS, fill_byte},
@@ -64,8 +64,10 @@ pub fn mirroring_number(c: &Cartridge) -> u8 {
 pub fn load(c: Cartridge) -> Result<Option<Pair>, String> {
     let mut buffers = Buffers::filled(&c);
     let before = buffers.clone();
-    let mut state = State::zero();
-    state.bytes[5] = 77;
+    // Load takes any words.
+    let mut state = State {
+        words: [77; words::COUNT],
+    };
     let ours = state.load(&buffers.lent(), c.chr_writable, mirroring_number(&c));
     if buffers != before {
         return Err(format!("load wrote a lent byte: {c:?}"));
@@ -88,14 +90,14 @@ impl Pair {
     /// Sets the Rust's tile count; the port is given its fold.
     pub fn set_tiles(&mut self, tiles: u32) {
         self.rust.exrom.ppu_status.tile_number = tiles;
-        self.state.wide[5] = tiles::fold(tiles);
+        self.state.words[words::TILE_COUNT] = tiles::fold(tiles) as u16;
     }
 
     /// Sets both boards in frame at a line.
     pub fn set_line(&mut self, line: u16) {
-        self.state.halves[3] = line;
+        self.state.words[words::LINE_COUNTER] = line;
         self.rust.exrom.ppu_status.scanline = line;
-        self.state.bytes[8] = 1;
+        self.state.words[words::IN_FRAME] = 1;
         self.rust.exrom.irq_state.in_frame = true;
     }
 
@@ -117,7 +119,7 @@ impl Pair {
     /// The split tile's address, on both: the same, and at most 959. A fetch has no refusal of its own for one above it.
     fn split_address(&self) -> Result<(), String> {
         let theirs = self.rust.exrom.regs.vsplit.tile_addr;
-        let ours = self.state.halves[1];
+        let ours = self.state.words[words::TILE_ADDRESS];
         if theirs != ours || ours > 959 {
             return Err(format!("split tile address: the Rust {theirs}, the port {ours}"));
         }
@@ -127,8 +129,8 @@ impl Pair {
     /// The tile count: the port's is the fold of the Rust's.
     pub fn tile_count(&self) -> Result<(), String> {
         let theirs = self.rust.exrom.ppu_status.tile_number;
-        let ours = self.state.wide[5];
-        if tiles::fold(theirs) != ours {
+        let ours = self.state.words[words::TILE_COUNT];
+        if tiles::fold(theirs) != u32::from(ours) {
             return Err(format!("tile count: the Rust {theirs}, the port {ours}"));
         }
         Ok(())

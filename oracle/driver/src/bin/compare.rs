@@ -138,6 +138,15 @@ fn main() {
         }
     }
     println!("from {} tile counts: {from_counts} calls", tiles::starts().count());
+    match breaks::limits() {
+        Ok(calls) => println!("at the words' limits: {calls} calls"),
+        Err(why) => {
+            if seen.differences == 0 {
+                println!("the first difference, at the words' limits");
+            }
+            seen.differ("at the words' limits", why);
+        }
+    }
     println!(
         "seed {seed}: {} traces, {} calls, {} refused calls, {} refused loads, {} whole comparisons, {} broken states, {} s",
         seen.traces,

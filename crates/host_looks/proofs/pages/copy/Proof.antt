@@ -8,16 +8,16 @@ use Rattle.host_looks.proofs.pages.copy.Statement.{statement}
 use Rattle.host_looks.proofs.pages.copy.Tie as tie
 
 abbrev Inv-loop : tie.InvT-loop
-Inv-loop good part out₀ whole i₀ out i = Copying part out₀ out i
+Inv-loop part out₀ fits i₀ out i = Copying part out₀ out i
 
 abbrev μ-loop : tie.MeasureT-loop
-μ-loop good part out₀ whole i₀ out i = 1024 - i
+μ-loop part out₀ fits i₀ out i = 1024 - i
 
 returns : tie.Need-returns Inv-loop μ-loop
-returns c = copy-not _ _ _ (c .if1 .taken)
+returns c = copy-not _ _ (c .if1 .taken)
 
 loop-holds : tie.Need-loop-holds Inv-loop μ-loop
-loop-holds c = copy-first (c .before .args .good) _ _ (c .if1 .left)
+loop-holds c = copy-first _ _ (c .if1 .left)
 
 shared-slice-read-out : tie.Need-shared-slice-read-out Inv-loop μ-loop
 shared-slice-read-out c = omega (arith, c .before .before .loop .inv .long, c .before .loop-test .taken)
@@ -29,7 +29,7 @@ same-length : tie.Need-same-length Inv-loop μ-loop
 same-length c = c .before .loop .inv .kept
 
 returns-2 : tie.Need-returns-2 Inv-loop μ-loop
-returns-2 c = copy-done _ _ _ _ _ (c .before .before .if1 .left) (c .before .loop .inv) (c .loop-test .left)
+returns-2 c = copy-done _ _ _ _ (c .before .before .if1 .left) (c .before .loop .inv) (c .loop-test .left)
 
 pub copy-spec : {M : Type 1} → statement M
 copy-spec =

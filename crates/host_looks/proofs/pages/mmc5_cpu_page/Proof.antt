@@ -1,14 +1,11 @@
--- The view's bytes, copied if the words are a state.
+-- The view's bytes, copied.
 use Rattle.host_looks.proofs.LookLaws.{page-copied}
 use borrow.Author.Needs.{needs}
 use Rattle.host_looks.proofs.pages.mmc5_cpu_page.Statement.{statement}
 use Rattle.host_looks.proofs.pages.mmc5_cpu_page.Tie as tie
 
 returns : tie.Need-returns
-returns c = page-copied _ _ _ _ _ _ _ _ (c .before .before .before .before .before .before .is-good .ensures) (c .before .before .before .before .before .state-of .ensures) (c .before .before .before .before .cpu-view .ensures) (c .before .before .copy .ensures)
+returns c = page-copied _ _ _ _ _ _ _ (c .before .before .before .before .before .state-of .ensures) (c .before .before .before .before .cpu-view .ensures) (c .before .before .copy .ensures)
 
 pub mmc5-cpu-page-spec : {M : Type 1} → statement M
-mmc5-cpu-page-spec =
-    tie.close
-    (tie.spec
-    (λ c κs. search needs) (λ c κs. search needs) (λ c κs. search needs) (λ c κs. search needs) (λ c. search needs) returns)
+mmc5-cpu-page-spec = tie.close (tie.spec (λ c κs. search needs) (λ c κs. search needs) (λ c κs. search needs) (λ c. search needs) returns)

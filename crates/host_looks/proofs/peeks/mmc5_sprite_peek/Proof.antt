@@ -1,14 +1,11 @@
--- The words are read, the board is asked, and what it answers is told if the words are a state.
+-- The words are read, the board is asked, and what it answers is told.
 use Rattle.host_looks.proofs.LookLaws.{look-told}
 use borrow.Author.Needs.{needs}
 use Rattle.host_looks.proofs.peeks.mmc5_sprite_peek.Statement.{statement}
 use Rattle.host_looks.proofs.peeks.mmc5_sprite_peek.Tie as tie
 
 returns : tie.Need-returns
-returns c = look-told _ _ _ _ _ _ _ _ (c .before .before .before .before .is-good .ensures) (c .before .before .before .state-of .ensures) (c .before .before .sprite-peek .ensures) (c .before .plain .ensures) (c .if-good .ensures)
+returns c = look-told _ _ _ _ _ _ (c .before .before .state-of .ensures) (c .before .sprite-peek .ensures) (c .plain .ensures)
 
 pub mmc5-sprite-peek-spec : {M : Type 1} → statement M
-mmc5-sprite-peek-spec =
-    tie.close
-    (tie.spec
-    (λ c κs. search needs) (λ c κs. search needs) (λ c κs. search needs) (λ c κs. search needs) (λ c κs. search needs) returns)
+mmc5-sprite-peek-spec = tie.close (tie.spec (λ c κs. search needs) (λ c κs. search needs) (λ c κs. search needs) returns)

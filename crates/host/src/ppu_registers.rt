@@ -1,0 +1,29 @@
+// The PPU register write: the PPU status and the detector are read and put back.
+ghost use mathlib.Core.Path.{_≡_};
+ghost use Rattle.state.specs.declared.State.{State};
+ghost use Rattle.board.specs.Whole.{ppuRegisterCall};
+ghost use Rattle.host.specs.Hosted.{leftWords, onWords};
+use answers::Answer;
+use answers::Refusal;
+use host_state::gate;
+use host_state::groups;
+use host_state::limits;
+use host_state::read;
+
+// A PPU register write.
+#[no_mangle]
+pub extern "C" fn mmc5_ppu_register(words: &mut [u16; 144], addr: u16, val: u8) -> u32
+    ensures { λ r. ⌜ leftWords r (now (words .exit)) ≡ onWords (now (words .entry)) (λ (s : State). ppuRegisterCall s addr val) ⌝ }
+{
+    limits::sized(*words);
+    if !gate::in_range(words) {
+        return told::plain(Answer::Refused(Refusal::State));
+    }
+    let before = read::detector_of(words);
+    let irq = cpu::ppu_registers::detector_after(before, addr, val);
+    let status = read::status_of(words);
+    let ppu = cpu::ppu_registers::status_after(status, addr, val);
+    groups::put_status(ppu, words);
+    groups::put_detector(irq, words);
+    told::with_interrupt(Answer::Nothing, irq)
+}

@@ -1,0 +1,27 @@
+// Reset: only the registers are read and put back.
+ghost use mathlib.Core.Path.{_≡_};
+ghost use Rattle.state.specs.declared.State.{State};
+ghost use Rattle.board.specs.Whole.{resetCall};
+ghost use Rattle.host.specs.Hosted.{leftWords, onWords};
+use answers::Answer;
+use answers::Refusal;
+use host_state::gate;
+use host_state::groups;
+use host_state::limits;
+use host_state::read;
+
+// Modes 8k and 1k.
+#[no_mangle]
+pub extern "C" fn mmc5_reset(words: &mut [u16; 144]) -> u32
+    ensures { λ r. ⌜ leftWords r (now (words .exit)) ≡ onWords (now (words .entry)) (λ (s : State). resetCall s) ⌝ }
+{
+    limits::sized(*words);
+    if !gate::in_range(words) {
+        return told::plain(Answer::Refused(Refusal::State));
+    }
+    let irq = read::detector_of(words);
+    let before = read::regs_of(words);
+    let after = registers::reset(before);
+    groups::put_regs(after, words);
+    told::with_interrupt(Answer::Nothing, irq)
+}

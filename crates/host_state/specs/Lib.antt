@@ -1,0 +1,4 @@
+pub mod Words
+pub mod Fits
+pub mod Put
+pub mod Promise

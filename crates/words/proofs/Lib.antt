@@ -1,6 +1,0 @@
-pub mod MappedLaws
-pub mod RangeLaws
-pub mod RoundLaws
-pub mod GateLaws
-pub mod PutLaws
-pub mod FlagLaws

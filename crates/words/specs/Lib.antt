@@ -1,4 +1,0 @@
-pub mod Words
-pub mod Put
-pub mod Gate
-pub mod Promise
