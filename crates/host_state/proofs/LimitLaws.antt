@@ -1,15 +1,16 @@
--- The limits: the loop that counts the words above theirs, and what holds of a word where none is.
-use Prim.Native.Nat.{ℕ, zero, suc, _+_, _<_, _≤_}
+-- The limits: the loop that gathers by how much words are above theirs, and what holds of a word where none is.
+use Prim.Native.Nat.{ℕ, zero, suc, _+_, _-_, _<_, _≤_}
 use mathlib.Core.Bool.{Bool, true, false, _&&_}
 use mathlib.Core.List.{List, [], _∷_}
+use mathlib.Core.Logic.{_≢_}
 use mathlib.Core.Path.{_≡_, refl, sym, ap, _∙_}
 use native.Mathlib.Numerals.{add-one}
 use native.Mathlib.Omega.{arith}
-use borrow.Author.Tests.{lt-leb, le-leb, leb-true, ltb-true, ltb-false}
-use lib.Dec.{eqb, leb, ltb, leb·zero, eqb·suc-zero}
+use borrow.Author.Tests.{leb-true, leb-false, eq-eqb, ne-eqb}
+use lib.Bits.{bitOr, or-zero-l, or-add-and, and-le-r}
+use lib.Dec.{eqb, leb, leb·zero, eqb·suc-zero}
 use lib.ListN.{length, take, getD}
-use Rattle.memory.specs.Words.{asBit}
-use Rattle.memory.proofs.Tests.{split, and-left, and-right, and-false}
+use Rattle.memory.proofs.Tests.{split, and-left, and-right}
 use Rattle.host_state.specs.Words.{limits, allWithin, withinLimits}
 
 -- Each of the words.
@@ -29,35 +30,32 @@ within-next (l ∷ ls) [] (suc i) h = rw (leb·zero (getD ls i 0))
 within-next (l ∷ ls) (x ∷ w) zero h = split (leb x l) (λ t. rw t) (λ t. rw t)
 within-next (l ∷ ls) (x ∷ w) (suc i) h = split (leb x l) (λ t. rw t (within-next ls w i (omega (arith, h)))) (λ t. rw t)
 
--- The count of the words above their limits, among the first i.
-pub record Counted (ls w : List ℕ) (above i : ℕ) : Type 0 where
-  pub few : above ≤ i
+-- Bits gathered are none where neither has any.
+or-none : (a b : ℕ) → eqb (bitOr a b) 0 ≡ eqb a 0 && eqb b 0
+or-none zero b = rw (or-zero-l b)
+or-none (suc a) b =
+    let some : bitOr (suc a) b ≢ 0 = λ e. omega (arith, e, or-add-and (suc a) b, and-le-r (suc a) b) in
+    ne-eqb (bitOr (suc a) b) 0 some ∙ rw (eqb·suc-zero a)
+
+-- A word is above its limit by nothing where it is within it.
+excess-none : (x l : ℕ) → eqb (x - l) 0 ≡ leb x l
+excess-none x l =
+    split (leb x l)
+    (λ t. rw t (eq-eqb (x - l) 0 (omega (arith, leb-true x l t))))
+    (λ f. rw f (ne-eqb (x - l) 0 (λ e. omega (arith, e, leb-false x l f))))
+
+-- The excesses of the first i words, gathered.
+pub record Gathered (ls w : List ℕ) (above i : ℕ) : Type 0 where
   pub none : eqb above 0 ≡ allWithin (take i ls) w
 
-pub count-first : (ls w : List ℕ) → Counted ls w 0 0
+pub gather-first : (ls w : List ℕ) → Gathered ls w 0 0
 unfolding allWithin
-count-first ls w = record { few = omega arith; none = refl }
+gather-first ls w = record { none = refl }
 
--- A count and one more is not none.
-more-is-some : (n : ℕ) → eqb (n + 1) 0 ≡ false
-more-is-some n = rw (add-one n) (eqb·suc-zero n)
+pub gather-next : (ls w : List ℕ) (above i more : ℕ) → Gathered ls w above i → i < length ls → more ≡ getD w i 0 - getD ls i 0 → Gathered ls w (bitOr above more) (i + 1)
+gather-next ls w above i more g h e =
+    record { none = rw (add-one i, e, or-none above (getD w i 0 - getD ls i 0), excess-none (getD w i 0) (getD ls i 0), g .none) (sym (within-next ls w i h)) }
 
-plus-none : (n : ℕ) → n + 0 ≡ n
-plus-none n = omega arith
-
-counts : (above x l : ℕ) (b : Bool) → eqb above 0 ≡ b → eqb (above + asBit (ltb l x)) 0 ≡ b && leb x l
-counts above x l b e =
-    split (ltb l x)
-    (λ t. rw (t, more-is-some above, lt-leb x l (ltb-true l x t)) (sym (and-false b)))
-    (λ t. rw (t, plus-none above, e, le-leb x l (ltb-false l x t)) (split b (λ y. rw y) (λ y. rw y)))
-
-pub count-next : (ls w : List ℕ) (above i one : ℕ) → Counted ls w above i → i < length ls → one ≡ asBit (ltb (getD ls i 0) (getD w i 0)) → one ≤ 1 → Counted ls w (above + one) (i + 1)
-count-next ls w above i one c h e small =
-    record {
-      few = omega (arith, c .few, small);
-      none = rw (add-one i, e) (counts above (getD w i 0) (getD ls i 0) (allWithin (take i ls) w) (c .none) ∙ sym (within-next ls w i h));
-    }
-
-pub count-last : (w : List ℕ) (above i : ℕ) → Counted limits w above i → i ≤ 64 → 64 ≤ i → eqb above 0 ≡ withinLimits w
+pub gather-last : (w : List ℕ) (above i : ℕ) → Gathered limits w above i → i ≤ 64 → 64 ≤ i → eqb above 0 ≡ withinLimits w
 unfolding withinLimits limits
-count-last w above i c high low = let end : i ≡ 64 = omega (arith, high, low) in c .none ∙ ap (λ (k : ℕ). allWithin (take k limits) w) end
+gather-last w above i g high low = let end : i ≡ 64 = omega (arith, high, low) in g .none ∙ ap (λ (k : ℕ). allWithin (take k limits) w) end

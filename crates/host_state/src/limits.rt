@@ -1,9 +1,7 @@
 // The limits of the first 64 words, asked in one loop.
 ghost use mathlib.Core.Path.{_≡_};
-ghost use Prim.Native.Nat.{_≤_};
-ghost use lib.Dec.{ltb};
+ghost use Prim.Native.Nat.{_-_};
 ghost use lib.ListN.{length};
-ghost use Rattle.memory.specs.Words.{asBit};
 ghost use Rattle.host_state.specs.Words.{withinLimits};
 
 // The most that each may be: 15 flags; mirroring; modes, protection, ExRAM mode, $5105, fill, multiplier; the split; the detector; what has 16 bits; lengths and
@@ -80,14 +78,17 @@ pub fn sized(words: [u16; 144])
     ensures { λ _. ⌜ length words ≡ 144 ⌝ }
 {}
 
-// 1 where a word is above its limit.
-fn over(most: u16, n: u16) -> u16
-    ensures { λ r. ⌜ (r ≡ asBit (ltb most n)) × (r ≤ 1) ⌝ }
+// By how much a word is above its limit: 0 where it is not.
+fn excess(most: u16, n: u16) -> u16
+    ensures { λ r. ⌜ r ≡ n - most ⌝ }
 {
-    if most < n { 1 } else { 0 }
+    if n < most {
+        return 0;
+    }
+    n - most
 }
 
-// How many words are above their limits is counted, and none may be. The table is bound before the loop: indexed by its name, it would be built again in every turn.
+// The excesses are gathered bit by bit, and must be nothing. The table is bound before the loop: indexed by its name, it would be built again in every turn.
 pub fn within_limits(words: &[u16; 144]) -> bool
     ensures { λ r. ⌜ r ≡ withinLimits (now (words .entry)) ⌝ }
 {
@@ -95,7 +96,7 @@ pub fn within_limits(words: &[u16; 144]) -> bool
     let mut above: u16 = 0;
     let mut i: usize = 0;
     while i < 64 {
-        above = above + over(limits[i], words[i]);
+        above = above | excess(limits[i], words[i]);
         i += 1;
     }
     above == 0
