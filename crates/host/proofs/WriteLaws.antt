@@ -24,7 +24,8 @@ use Rattle.state.specs.declared.PpuStatus.{PpuStatus}
 use Rattle.state.specs.declared.State.{State}
 use Rattle.state.specs.Gate.{gateMem}
 use Rattle.state.specs.Ranges.{inRange}
-use Rattle.state.specs.With.{withIrq, withPpu, withRegs, withVsplit, withMirroring, withPrgBanks, withChrBanks, withPrgPages}
+use Rattle.state.specs.With.{withIrq, withPpu, withRegs, withVsplit}
+use Rattle.host_state.proofs.With.{withMirroring, withPrgBanks, withChrBanks, withPrgPages}
 use Rattle.banks.specs.Chr.{chrMapped}
 use Rattle.banks.specs.Names.{namesMapped}
 use Rattle.banks.specs.Prg.{windowsMapped}

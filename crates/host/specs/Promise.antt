@@ -31,5 +31,6 @@ calledOn Reset w m = withMemory (onWords w (λ (s : State). resetCall s)) m
 calledOn (PpuWrite a v) w m = onMemory w m (λ (s : State). ppuWrite s m (a .0) v)
 
 pub record RefusalsLeaveAll : Type 0 where
-  -- A call that tells a refusal leaves every word and byte, whatever they are.
+  -- A call that tells a refusal leaves every word and byte, whatever they are. That a refused call does is in the definitions; what is added is that no call
+  -- that is taken tells a refusal's number.
   pub refused : (c : Call) (w : List ℕ) (m : Mem) (r : Refusal) → calledOn c w m .number ≡ toldPlain (Refused r) → calledOn c w m ≡ leftMemory (toldPlain (Refused r)) w m

@@ -18,7 +18,7 @@ use host_state::tables;
 use state::gate::Gate;
 use steps::ppu_side;
 
-// "mapping only on a change"
+// "mapping only on a change": the table is read and put back only then; the step of crate `steps` takes it whole.
 fn map_on_change(before: bool, after: bool, words: &mut [u16; 144])
     requires { ⌜ (inRange (stateOf (now words)) ≡ true) × (before ≡ stateOf (now words) .ppu .«bg_set») ⌝ }
     ensures { λ _. ⌜ now (words .exit) ≡ wordsOf (withChrPages (stateOf (now (words .entry))) (patternPages (stateOf (now (words .entry))) after)) ⌝ }

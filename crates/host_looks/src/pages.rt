@@ -15,11 +15,11 @@ use memory::Page;
 use memory::PpuAddr;
 use memory::Src;
 
-// An entry of words that are a state in range; of others `!` in the buffer's place, and 5.
-fn if_in_range(good: bool, number: u32) -> u32
-    ensures { λ r. ⌜ r ≡ pick good number noEntry ⌝ }
+// An entry of words that stand for a state in range; of others `!` in the buffer's place, and 5.
+fn if_in_range(in_range: bool, number: u32) -> u32
+    ensures { λ r. ⌜ r ≡ pick «in_range» number noEntry ⌝ }
 {
-    if good { number } else { 2162693 }
+    if in_range { number } else { 2162693 }
 }
 
 // A page's number in its buffer, with a mark where it takes writes.
@@ -54,10 +54,10 @@ fn entry_number(page: Page) -> u32
 pub extern "C" fn mmc5_cpu_entry(words: &[u16; 144], addr: u16) -> u32
     ensures { λ r. ⌜ r ≡ entryOn (now (words .entry)) (λ (s : State). pageOf (prgWordAt (s .«prg_pages») addr)) ⌝ }
 {
-    let good = gate::in_range(words);
+    let in_range = gate::in_range(words);
     let word = tables::prg_word(words, addr);
     let page = memory::words::page_of(word);
-    if_in_range(good, entry_number(page))
+    if_in_range(in_range, entry_number(page))
 }
 
 // The CHR table's entry at a PPU address.
@@ -65,10 +65,10 @@ pub extern "C" fn mmc5_cpu_entry(words: &[u16; 144], addr: u16) -> u32
 pub extern "C" fn mmc5_ppu_entry(words: &[u16; 144], addr: u16) -> u32
     ensures { λ r. ⌜ r ≡ entryOn (now (words .entry)) (λ (s : State). pageOf (chrWordAt (s .«chr_pages») addr)) ⌝ }
 {
-    let good = gate::in_range(words);
+    let in_range = gate::in_range(words);
     let word = tables::chr_word(words, addr);
     let page = memory::words::page_of(word);
-    if_in_range(good, entry_number(page))
+    if_in_range(in_range, entry_number(page))
 }
 
 // A page's bytes, copied where there are 1,024 bytes and room for just so many: how many.

@@ -3,6 +3,7 @@ pub mod PartLaws
 pub mod LimitLaws
 pub mod Within
 pub mod GateLaws
+pub mod With
 pub mod PutLaws
 pub mod Backs
 pub mod Forths

@@ -14,7 +14,8 @@ use Rattle.scanline.specs.declared.Detector.{Detector}
 use Rattle.split.specs.declared.VSplit.{VSplit}
 use Rattle.state.specs.declared.PpuStatus.{PpuStatus}
 use Rattle.state.specs.declared.State.{State}
-use Rattle.state.specs.With.{withIrq, withPpu, withRegs, withVsplit, withMirroring, withPrgBanks, withChrBanks, withPrgPages, withChrPages}
+use Rattle.state.specs.With.{withIrq, withPpu, withRegs, withVsplit, withChrPages}
+use Rattle.host_state.proofs.With.{withMirroring, withPrgBanks, withChrBanks, withPrgPages}
 use Rattle.host_state.specs.Put.{lengthWords, regWords, regionWords, splitWords, irqWords, tileWords, setWords, statusWords, mirroringWords, prgBankWords, chrBankWords, prgPageWords, chrPageWords, exramWords}
 use Rattle.host_state.specs.Words.{numbersOf, numbersAt, wordsOf}
 use Rattle.host_state.proofs.PartLaws.{numbers-length}

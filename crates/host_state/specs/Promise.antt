@@ -1,5 +1,6 @@
--- What is promised of words: they are within their limits, and their tables within theirs, exactly when the state that they stand for is in range; a state in
--- range has one set of words, and words in range are the words of their state. Assumes the lengths and the types that the host lends.
+-- What is promised of words. `ranges`: the state that they stand for is in range exactly when no word is above its limit, word 0 is 1, and each page is one
+-- that its table may show. That no limit is too high is `ranges`; that none is too low is `forth`, since words above a limit stand for a broken state.
+-- `back`: words in range are the words of their state. Assumes the lengths and the types that the host lends.
 use Prim.Native.Nat.{ℕ}
 use mathlib.Core.Bool.{true, _&&_}
 use mathlib.Core.List.{List}

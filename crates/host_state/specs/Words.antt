@@ -21,15 +21,25 @@ use Rattle.state.specs.declared.State.{State}
 -- The most that each of the first 64 words may be: 01, "STATE ranges", and refusals 1 to 3 for the lengths; a flag is 0 or 1, a byte at most 255.
 unfoldable pub limits : List ℕ
 limits =
+    -- 0-14: flags
     1 ∷ 1 ∷ 1 ∷ 1 ∷ 1 ∷ 1 ∷ 1 ∷ 1 ∷ 1 ∷ 1 ∷ 1 ∷ 1 ∷ 1 ∷ 1 ∷ 1
+    -- 15: mirroring
     ∷ 4
+    -- 16-25: modes, protection, ExRAM mode, $5105, fill, multiplier
     ∷ 3 ∷ 3 ∷ 3 ∷ 3 ∷ 3 ∷ 255 ∷ 255 ∷ 3 ∷ 255 ∷ 255
+    -- 26-29: the split's registers
     ∷ 255 ∷ 31 ∷ 255 ∷ 255
+    -- 30-32: match count, idle count, $5203
     ∷ 255 ∷ 2 ∷ 255
+    -- 33-37: $5130, tile address, previous address, line counter, tile cache
     ∷ 3 ∷ 959 ∷ 65535 ∷ 65279 ∷ 1023
+    -- 38-41: the lengths; the tile count (CR 7)
     ∷ 127 ∷ 1024 ∷ 64 ∷ 83
+    -- 42-46: $5113-$5117
     ∷ 255 ∷ 255 ∷ 255 ∷ 255 ∷ 255
+    -- 47-62: $5120-$512B
     ∷ 255 ∷ 255 ∷ 255 ∷ 255 ∷ 255 ∷ 255 ∷ 255 ∷ 255 ∷ 255 ∷ 255 ∷ 255 ∷ 255 ∷ 255 ∷ 255 ∷ 255 ∷ 255
+    -- 63: spare
     ∷ 0
     ∷ []
 
@@ -42,7 +52,7 @@ allWithin (l ∷ ls) (x ∷ w) = leb x l && allWithin ls w
 unfoldable pub withinLimits : List ℕ → Bool
 withinLimits w = allWithin limits w
 
--- A flag is its word being 1; a byte is its word's low byte. Within the limits there is no other 1 and no other byte.
+-- A flag is its word being 1; a byte is its word's low byte. Within the limits a flag's word is 0 or 1, and a byte's word is the byte.
 abbrev pub flagAt : List ℕ → ℕ → Bool
 flagAt w k = eqb (getD w k 0) 1
 

@@ -13,7 +13,7 @@ use state::Lengths;
 use state::PpuStatus;
 
 // A byte as a word.
-fn wide(n: u8) -> u16
+fn as_word(n: u8) -> u16
     ensures { λ r. ⌜ r ≡ n ⌝ }
 {
     n as u16
@@ -127,7 +127,7 @@ pub fn put_prg_banks(b: [u8; 5], words: &mut [u16; 144])
     limits::sized(*words);
     let mut i: usize = 0;
     while i < 5 {
-        words[42 + i] = wide(b[i]);
+        words[42 + i] = as_word(b[i]);
         i += 1;
     }
 }
@@ -138,7 +138,7 @@ pub fn put_chr_banks(b: [u8; 16], words: &mut [u16; 144])
     limits::sized(*words);
     let mut i: usize = 0;
     while i < 16 {
-        words[47 + i] = wide(b[i]);
+        words[47 + i] = as_word(b[i]);
         i += 1;
     }
 }

@@ -11,7 +11,12 @@ use crate::limits;
 use memory::PageWord;
 
 // No code: the lengths that the types say, of the bank registers and of the page tables.
-pub fn sized(prg_banks: [u8; 5], chr_banks: [u8; 16], prg: [PageWord; 64], chr: [PageWord; 16])
+pub fn arrays_sized(
+    prg_banks: [u8; 5],
+    chr_banks: [u8; 16],
+    prg: [PageWord; 64],
+    chr: [PageWord; 16],
+)
     ensures { λ _. ⌜ (length «prg_banks» ≡ 5) × ((length «chr_banks» ≡ 16) × ((length prg ≡ 64) × (length chr ≡ 16))) ⌝ }
 {}
 

@@ -61,7 +61,7 @@ pub fn put_state(s: State, words: &mut [u16; 144])
     let chr_banks = s.chr_banks;
     let prg_pages = s.prg_pages;
     let chr_pages = s.chr_pages;
-    tables::sized(prg_banks, chr_banks, prg_pages, chr_pages);
+    tables::arrays_sized(prg_banks, chr_banks, prg_pages, chr_pages);
     groups::put_lengths(s.lengths, words);
     groups::put_regs(s.regs, words);
     groups::put_split(s.vsplit, words);

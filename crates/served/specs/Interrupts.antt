@@ -1,6 +1,6 @@
 -- The interrupt that a host is told is that of its history. 00, demand 3: "The history alone tells the scanline interrupt"; "The interrupt is up
 -- exactly when the flag is set and the last write to $5204 had bit 7 set" (`Up`, crate `lines`, specs/Told.antt).
--- Assumes nothing; that a number's bit can be told from the rest, that bytes are bytes.
+-- Assumes of a host's calls what their types say (Numbers.antt); that a number's bit can be told from the rest, that bytes are bytes.
 use Prim.Native.Nat.{ℕ, _+_, _/_, _%_}
 use mathlib.Core.List.{List, [], _∷_}
 use mathlib.Core.Logic.{_↔_}

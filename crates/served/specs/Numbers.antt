@@ -4,7 +4,7 @@ use Rattle.trace.specs.Promise.{InRange}
 use Rattle.histories.specs.Boards.{Made}
 use Rattle.histories.specs.Boards.Made.{call, peek, ppu-peek, sprite-peek, mirroring-asked, interrupt-asked, cpu-page, ppu-page}
 
--- Calls whose addresses are u16 and whose values are bytes, as a host's are.
+-- Calls whose addresses are u16 and whose values are bytes, as a host's are. Of peeks and views nothing is asked: they leave the state.
 unfoldable pub AllInRange : List Made → Type 0
 AllInRange [] = Unit {0}
 AllInRange (call c ∷ cs) = InRange c × AllInRange cs

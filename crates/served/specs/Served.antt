@@ -1,7 +1,7 @@
 -- A host's calls over lent words are a history of the board. 00, demand 2: "On every sequence of accepted calls from load, answers, page tables and
 -- memory .."; 01, "What each contract settles": "each takes the state and the memories as the call before it left them." What a call does is what
 -- its function's contract allows (specs/Calls.antt), so that this speaks of what a server runs.
--- Assumes nothing.
+-- Assumes of a host's calls what their types say: addresses of 16 bits, values of 8 (Numbers.antt).
 use Prim.Native.Nat.{ℕ, _+_, _%_}
 use mathlib.Core.List.{List, [], _∷_, _++_, map}
 use mathlib.Core.Path.{_≡_}

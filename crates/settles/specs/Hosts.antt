@@ -22,7 +22,7 @@ use Rattle.host_state.proofs.groups.put_prg_banks.Reads as host-state-put-prg-b
 use Rattle.host_state.proofs.groups.put_chr_banks.Reads as host-state-put-chr-banks
 use Rattle.host_state.proofs.groups.put_exram_word.Reads as host-state-put-exram-word
 use Rattle.host_state.proofs.groups.put_lengths.Reads as host-state-put-lengths
-use Rattle.host_state.proofs.limits.sized.Reads as host-state-limits-sized
+use Rattle.host_state.proofs.limits.sized.Reads as host-state-sized
 use Rattle.host_state.proofs.limits.within_limits.Reads as host-state-within-limits
 use Rattle.host_state.proofs.read.mirroring_numbered.Reads as host-state-mirroring-numbered
 use Rattle.host_state.proofs.read.lengths_of.Reads as host-state-lengths-of
@@ -33,7 +33,7 @@ use Rattle.host_state.proofs.read.status_of.Reads as host-state-status-of
 use Rattle.host_state.proofs.read.mirroring_of.Reads as host-state-mirroring-of
 use Rattle.host_state.proofs.read.prg_banks_of.Reads as host-state-prg-banks-of
 use Rattle.host_state.proofs.read.chr_banks_of.Reads as host-state-chr-banks-of
-use Rattle.host_state.proofs.tables.sized.Reads as host-state-tables-sized
+use Rattle.host_state.proofs.tables.arrays_sized.Reads as host-state-arrays-sized
 use Rattle.host_state.proofs.tables.prg_ok.Reads as host-state-prg-ok
 use Rattle.host_state.proofs.tables.chr_ok.Reads as host-state-chr-ok
 use Rattle.host_state.proofs.tables.prg_word.Reads as host-state-prg-word
@@ -92,7 +92,7 @@ pub record HostState : Type 0 where
   pub put-chr-banks : Settles host-state-put-chr-banks.Learnt (λ κ a r e. wordsLeft (e .1))
   pub put-exram-word : Settles host-state-put-exram-word.Learnt (λ κ a r e. wordsLeft (e .1))
   pub put-lengths : Settles host-state-put-lengths.Learnt (λ κ a r e. wordsLeft (e .1))
-  pub limits-sized : Result host-state-limits-sized.Learnt
+  pub sized : Result host-state-sized.Learnt
   pub within-limits : Result host-state-within-limits.Learnt
   pub mirroring-numbered : Result host-state-mirroring-numbered.Learnt
   pub lengths-of : Result host-state-lengths-of.Learnt
@@ -103,7 +103,7 @@ pub record HostState : Type 0 where
   pub mirroring-of : Result host-state-mirroring-of.Learnt
   pub prg-banks-of : Result host-state-prg-banks-of.Learnt
   pub chr-banks-of : Result host-state-chr-banks-of.Learnt
-  pub tables-sized : Result host-state-tables-sized.Learnt
+  pub arrays-sized : Result host-state-arrays-sized.Learnt
   pub prg-ok : Result host-state-prg-ok.Learnt
   pub chr-ok : Result host-state-chr-ok.Learnt
   pub prg-word : Result host-state-prg-word.Learnt

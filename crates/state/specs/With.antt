@@ -1,9 +1,7 @@
 -- A state, or its PPU status, with one field changed.
-use Prim.Native.Nat.{ℕ}
 use mathlib.Core.Bool.{Bool}
 use mathlib.Core.List.{List}
 use Rattle.memory.specs.declared.PageWord.{PageWord}
-use Rattle.registers.specs.declared.Mirroring.{Mirroring}
 use Rattle.registers.specs.declared.Regs.{Regs}
 use Rattle.scanline.specs.declared.Detector.{Detector}
 use Rattle.split.specs.declared.VSplit.{VSplit}
@@ -25,22 +23,6 @@ withIrq s v =
 abbrev pub withPpu : State → PpuStatus → State
 withPpu s v =
     record { lengths = s .lengths; regs = s .regs; vsplit = s .vsplit; irq = s .irq; ppu = v; screen = s .screen; «prg_banks» = s .«prg_banks»; «chr_banks» = s .«chr_banks»; «prg_pages» = s .«prg_pages»; «chr_pages» = s .«chr_pages» }
-
-abbrev pub withMirroring : State → Mirroring → State
-withMirroring s v =
-    record { lengths = s .lengths; regs = s .regs; vsplit = s .vsplit; irq = s .irq; ppu = s .ppu; screen = record { mirroring = v }; «prg_banks» = s .«prg_banks»; «chr_banks» = s .«chr_banks»; «prg_pages» = s .«prg_pages»; «chr_pages» = s .«chr_pages» }
-
-abbrev pub withPrgBanks : State → List ℕ → State
-withPrgBanks s v =
-    record { lengths = s .lengths; regs = s .regs; vsplit = s .vsplit; irq = s .irq; ppu = s .ppu; screen = s .screen; «prg_banks» = v; «chr_banks» = s .«chr_banks»; «prg_pages» = s .«prg_pages»; «chr_pages» = s .«chr_pages» }
-
-abbrev pub withChrBanks : State → List ℕ → State
-withChrBanks s v =
-    record { lengths = s .lengths; regs = s .regs; vsplit = s .vsplit; irq = s .irq; ppu = s .ppu; screen = s .screen; «prg_banks» = s .«prg_banks»; «chr_banks» = v; «prg_pages» = s .«prg_pages»; «chr_pages» = s .«chr_pages» }
-
-abbrev pub withPrgPages : State → List PageWord → State
-withPrgPages s v =
-    record { lengths = s .lengths; regs = s .regs; vsplit = s .vsplit; irq = s .irq; ppu = s .ppu; screen = s .screen; «prg_banks» = s .«prg_banks»; «chr_banks» = s .«chr_banks»; «prg_pages» = v; «chr_pages» = s .«chr_pages» }
 
 abbrev pub withChrPages : State → List PageWord → State
 withChrPages s v =

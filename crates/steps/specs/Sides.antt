@@ -1,4 +1,4 @@
--- Steps inside a call, over all addresses, for the loop of replay and for the host; no promise names them.
+-- Steps inside a call, over all addresses, for the entry points by value, the host and the loop of replay; no promise names them.
 use Prim.Native.Nat.{ℕ}
 use mathlib.Core.Bool.{Bool}
 use lib.Dec.{eqb, ltb}

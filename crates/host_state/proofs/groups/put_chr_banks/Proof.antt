@@ -16,7 +16,7 @@ loop-holds : tie.Need-loop-holds Inv-loop μ-loop
 loop-holds c = put-first _ _ 47 16 (omega (arith, c .sized .ensures)) (search needs)
 
 loop-again : tie.Need-loop-again Inv-loop μ-loop
-loop-again c = put-next _ _ 47 16 _ _ _ (c .before .before .loop .inv) (search needs) (c .wide .ensures)
+loop-again c = put-next _ _ 47 16 _ _ _ (c .before .before .loop .inv) (search needs) (c .«as-word» .ensures)
 
 returns : tie.Need-returns Inv-loop μ-loop
 returns c = put-last _ _ 47 16 _ _ (c .before .loop .inv) (search needs)

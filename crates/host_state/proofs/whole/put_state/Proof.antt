@@ -10,7 +10,7 @@ returns c =
     let at-regs = at-mirroring .before .before .before .before .before .before .before .before in
     let at-tables = at-regs .before .before .before .before in
     let at-sized = at-tables .before .before .before .before .before .before in
-    steps-put (at-sized .before .before .args .s) (at-sized .before .before .args .words .now) _ _ _ _ _ _ _ _ _ _ (at-sized .sized .ensures) (at-tables .sized2 .ensures .0) (at-tables .sized2 .ensures .1 .0) (at-tables .sized2 .ensures .1 .1 .0) (at-tables .sized2 .ensures .1 .1 .1)
+    steps-put (at-sized .before .before .args .s) (at-sized .before .before .args .words .now) _ _ _ _ _ _ _ _ _ _ (at-sized .sized .ensures) (at-tables .«arrays-sized» .ensures .0) (at-tables .«arrays-sized» .ensures .1 .0) (at-tables .«arrays-sized» .ensures .1 .1 .0) (at-tables .«arrays-sized» .ensures .1 .1 .1)
     (at-regs .before .before .put-lengths .ensures)
     (at-regs .put-regs .ensures)
     (at-mirroring .before .before .before .before .before .before .put-split .ensures)
