@@ -25,9 +25,9 @@ fn answer_at(
     ram: &[u8],
     ciram: &[u8],
     exram: &[u8],
-    addr: u16,
+    addr: CpuAddr,
 ) -> Answer
-    ensures { λ r. ⌜ r ≡ cpuAnswer s (memOf (now (prg .entry)) (now (chr .entry)) (now (ram .entry)) (now (ciram .entry)) (now (exram .entry))) addr ⌝ }
+    ensures { λ r. ⌜ r ≡ cpuAnswer s (memOf (now (prg .entry)) (now (chr .entry)) (now (ram .entry)) (now (ciram .entry)) (now (exram .entry))) (addr .0) ⌝ }
 {
     let pages = s.prg_pages;
     let word = cpu::writes::prg_word_at(pages, addr);
@@ -50,9 +50,9 @@ fn answer_at(
 }
 
 // The state after a write: the registers lie from $5100 to $5206.
-fn register_written(s: State, addr: u16, val: u8) -> State
+fn register_written(s: State, addr: CpuAddr, val: u8) -> State
     requires { ⌜ lengthsOk (s .lengths) ≡ true ⌝ }
-    ensures { λ r. ⌜ r ≡ registerWritten s addr val ⌝ }
+    ensures { λ r. ⌜ r ≡ registerWritten s (addr .0) val ⌝ }
 {
     let mut t = s;
     if !cpu::groups::is_within(0x5100, 0x5206, addr) {
@@ -126,12 +126,11 @@ pub fn cpu_read(
     if let Gate::Shut(refusal) = gate {
         return refuse(s, refusal);
     }
-    let a = addr.0;
-    if cpu::reads::audio_read(a) {
+    if cpu::reads::audio_read(addr) {
         return refuse(s, Refusal::Audio);
     }
-    let answer = answer_at(s, prg, chr, ram, ciram, exram, a);
-    let irq = cpu::reads::irq_read(s.irq, a);
+    let answer = answer_at(s, prg, chr, ram, ciram, exram, addr);
+    let irq = cpu::reads::irq_read(s.irq, addr);
     let mut t = s;
     t.irq = irq;
     Outcome { answer, state: t }
@@ -152,11 +151,10 @@ pub fn cpu_peek(
     if let Gate::Shut(refusal) = gate {
         return Answer::Refused(refusal);
     }
-    let a = addr.0;
-    if cpu::reads::audio_read(a) {
+    if cpu::reads::audio_read(addr) {
         return Answer::Refused(Refusal::Audio);
     }
-    answer_at(s, prg, chr, ram, ciram, exram, a)
+    answer_at(s, prg, chr, ram, ciram, exram, addr)
 }
 
 pub fn cpu_write(
@@ -176,12 +174,11 @@ pub fn cpu_write(
     if let Gate::Shut(refusal) = gate {
         return refuse(s, refusal);
     }
-    let a = addr.0;
-    if cpu::writes::audio_write(a) {
+    if cpu::writes::audio_write(addr) {
         return refuse(s, Refusal::Audio);
     }
-    let pages = s.prg_pages;
-    let word = cpu::writes::prg_word_at(pages, a);
+    let table = s.prg_pages;
+    let word = cpu::writes::prg_word_at(table, addr);
     // First the bytes: no register maps the page that registers are written at.
     steps::cpu_side::store(
         chr,
@@ -191,11 +188,11 @@ pub fn cpu_write(
         s.regs.exram_mode,
         s.ppu.rendering,
         word,
-        a,
+        addr,
         val,
     );
     Outcome {
         answer: Answer::Nothing,
-        state: register_written(s, a, val),
+        state: register_written(s, addr, val),
     }
 }

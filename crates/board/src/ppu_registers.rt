@@ -16,9 +16,8 @@ pub fn ppu_register(s: State, addr: CpuAddr, val: u8) -> Outcome
     if !ok {
         return refuse(s, Refusal::State);
     }
-    let a = addr.0;
-    let ppu = cpu::ppu_registers::status_after(s.ppu, a, val);
-    let irq = cpu::ppu_registers::detector_after(s.irq, a, val);
+    let ppu = cpu::ppu_registers::status_after(s.ppu, addr, val);
+    let irq = cpu::ppu_registers::detector_after(s.irq, addr, val);
     let mut t = s;
     t.ppu = ppu;
     t.irq = irq;

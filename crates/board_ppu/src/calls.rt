@@ -25,18 +25,17 @@ pub fn ppu_fetch(
     if let Gate::Shut(refusal) = gate {
         return board::refuse(s, refusal);
     }
-    let a = addr.0;
-    if scanline::counter_refused(s.irq, a) {
+    if scanline::counter_refused(s.irq, addr) {
         return board::refuse(s, Refusal::Counter);
     }
     let regs = s.regs;
     let table = s.chr_pages;
-    if scanline::tiles::counted(a) {
-        let after = ppu_side::count_fetch(regs, s.irq, s.ppu, s.vsplit, a);
+    if scanline::tiles::counted(addr) {
+        let after = ppu_side::count_fetch(regs, s.irq, s.ppu, s.vsplit, addr);
         let irq = after.irq;
         let status = after.ppu;
         let vsplit = after.vsplit;
-        let word = pages::chr_word_at(table, a);
+        let word = pages::chr_word_at(table, addr);
         let answer = ppu_side::counted_answer(
             regs,
             vsplit,
@@ -48,7 +47,7 @@ pub fn ppu_fetch(
             ram,
             ciram,
             exram,
-            a,
+            addr,
         );
         let mut t = s;
         t.irq = irq;
@@ -56,7 +55,7 @@ pub fn ppu_fetch(
         t.vsplit = vsplit;
         return Outcome { answer, state: t };
     }
-    let status = ppu_side::chosen_at(s.ppu, s.irq.in_frame, a);
+    let status = ppu_side::chosen_at(s.ppu, s.irq.in_frame, addr);
     let banks = s.chr_banks;
     let mapped = ppu_side::map_on_change(
         s.lengths,
@@ -66,7 +65,7 @@ pub fn ppu_fetch(
         status.bg_set,
         table,
     );
-    let word = pages::chr_word_at(mapped, a);
+    let word = pages::chr_word_at(mapped, addr);
     let answer = ppu_side::other_answer(
         regs,
         s.vsplit,
@@ -78,7 +77,7 @@ pub fn ppu_fetch(
         ram,
         ciram,
         exram,
-        a,
+        addr,
     );
     let mut t = s;
     t.ppu = status;

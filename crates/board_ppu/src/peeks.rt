@@ -24,10 +24,9 @@ pub fn ppu_peek(
     if let Gate::Shut(refusal) = gate {
         return Answer::Refused(refusal);
     }
-    let a = addr.0;
     let table = s.chr_pages;
-    let word = pages::chr_word_at(table, a);
-    if scanline::tiles::counted(a) {
+    let word = pages::chr_word_at(table, addr);
+    if scanline::tiles::counted(addr) {
         return ppu_side::counted_answer(
             s.regs,
             s.vsplit,
@@ -39,7 +38,7 @@ pub fn ppu_peek(
             ram,
             ciram,
             exram,
-            a,
+            addr,
         );
     }
     ppu_side::other_answer(
@@ -53,7 +52,7 @@ pub fn ppu_peek(
         ram,
         ciram,
         exram,
-        a,
+        addr,
     )
 }
 
@@ -72,11 +71,10 @@ pub fn sprite_peek(
     if let Gate::Shut(refusal) = gate {
         return Answer::Refused(refusal);
     }
-    let a = addr.0;
-    let none = !s.ppu.sprite8x16 | (0x2000 <= a);
+    let none = !s.ppu.sprite8x16 | (0x2000 <= addr.0);
     if none {
         return Answer::Nothing;
     }
     let banks = s.chr_banks;
-    Answer::Served(ppu::served::sprite_byte(s.regs, banks, chr, a))
+    Answer::Served(ppu::served::sprite_byte(s.regs, banks, chr, addr))
 }

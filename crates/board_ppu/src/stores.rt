@@ -27,10 +27,9 @@ pub fn ppu_write(
     if let Gate::Shut(refusal) = gate {
         return board::refuse(s, refusal);
     }
-    let a = addr.0;
     let table = s.chr_pages;
-    let word = pages::chr_word_at(table, a);
-    memory::bytes::store(chr, ram, ciram, exram, word, a, val);
+    let word = pages::chr_word_at(table, addr);
+    memory::bytes::store(chr, ram, ciram, exram, word, addr.0 % 1024, val);
     Outcome {
         answer: Answer::Nothing,
         state: s,

@@ -2,6 +2,7 @@
 ghost use mathlib.Core.Path.{_≡_};
 ghost use Rattle.cpu.specs.Chosen.{chosen, ppuAfter, setChanged};
 use crate::groups;
+use memory::CpuAddr;
 use state::PpuStatus;
 
 // The set is chosen anew. With 8x8 sprites the background's registers are not looked at, so the last write counts as one to the sprites'.
@@ -17,10 +18,10 @@ pub fn choose(p: PpuStatus, in_frame: bool) -> PpuStatus
 }
 
 // A CPU write: $5101 and the CHR registers choose.
-pub fn ppu_after(p: PpuStatus, in_frame: bool, addr: u16) -> PpuStatus
-    ensures { λ r. ⌜ r ≡ ppuAfter p «in_frame» addr ⌝ }
+pub fn ppu_after(p: PpuStatus, in_frame: bool, addr: CpuAddr) -> PpuStatus
+    ensures { λ r. ⌜ r ≡ ppuAfter p «in_frame» (addr .0) ⌝ }
 {
-    if addr == 0x5101 {
+    if addr.0 == 0x5101 {
         return choose(p, in_frame);
     }
     let mut next = p;

@@ -6,6 +6,7 @@ ghost use Rattle.memory.specs.Words.{pageOf};
 ghost use Rattle.cpu.specs.Reads.{shownAs, pageAnswer, registerRead, irqRead, audioRead};
 use crate::groups;
 use answers::Answer;
+use memory::CpuAddr;
 use memory::PageWord;
 use memory::Src;
 use registers::Regs;
@@ -26,7 +27,7 @@ fn shown_as(src: Src, val: u8) -> Answer
     }
 }
 
-// What a page word answers at an address.
+// What a page word answers at an offset within its page.
 pub fn page_answer(
     prg: &[u8],
     chr: &[u8],
@@ -34,11 +35,11 @@ pub fn page_answer(
     ciram: &[u8],
     exram: &[u8],
     word: PageWord,
-    addr: u16,
+    offset: u16,
 ) -> Answer
-    ensures { λ r. ⌜ r ≡ pageAnswer (memOf (now (prg .entry)) (now (chr .entry)) (now (ram .entry)) (now (ciram .entry)) (now (exram .entry))) (pageOf word) addr ⌝ }
+    ensures { λ r. ⌜ r ≡ pageAnswer (memOf (now (prg .entry)) (now (chr .entry)) (now (ram .entry)) (now (ciram .entry)) (now (exram .entry))) (pageOf word) offset ⌝ }
 {
-    let place = memory::words::place_of(word, addr);
+    let place = memory::words::place_of(word, offset);
     let val = memory::bytes::peek(prg, chr, ram, ciram, exram, place);
     let src = place.src;
     shown_as(src, val)
@@ -58,20 +59,21 @@ pub fn register_or(
     irq: Detector,
     prg_banks: [u8; 5],
     chr_banks: [u8; 16],
-    addr: u16,
+    addr: CpuAddr,
     page: Answer,
 ) -> Answer
-    ensures { λ r. ⌜ r ≡ registerRead regs vsplit irq «prg_banks» «chr_banks» addr page ⌝ }
+    ensures { λ r. ⌜ r ≡ registerRead regs vsplit irq «prg_banks» «chr_banks» (addr .0) page ⌝ }
 {
     if groups::is_within(0x5113, 0x5117, addr) {
-        let at = (addr - 0x5113) as usize;
+        let at = (addr.0 - 0x5113) as usize;
         return Answer::Register(prg_banks[at]);
     }
     if groups::is_within(0x5120, 0x512B, addr) {
-        let at = (addr - 0x5120) as usize;
+        let at = (addr.0 - 0x5120) as usize;
         return Answer::Register(chr_banks[at]);
     }
-    match addr {
+    let a = addr.0;
+    match a {
         0x5100 => Answer::Register(regs.prg_mode),
         0x5101 => Answer::Register(regs.chr_mode),
         0x5104 => Answer::Register(regs.exram_mode),
@@ -91,10 +93,11 @@ pub fn register_or(
 }
 
 // What a read, and no peek, leaves in the detector.
-pub fn irq_read(irq: Detector, addr: u16) -> Detector
-    ensures { λ r. ⌜ r ≡ irqRead irq addr ⌝ }
+pub fn irq_read(irq: Detector, addr: CpuAddr) -> Detector
+    ensures { λ r. ⌜ r ≡ irqRead irq (addr .0) ⌝ }
 {
-    match addr {
+    let a = addr.0;
+    match a {
         0x5204 => scanline::status_read(irq),
         0xFFFA => scanline::vector_read(irq),
         0xFFFB => scanline::vector_read(irq),
@@ -103,8 +106,8 @@ pub fn irq_read(irq: Detector, addr: u16) -> Detector
 }
 
 // Refusal 6, of a read or a peek.
-pub fn audio_read(addr: u16) -> bool
-    ensures { λ r. ⌜ r ≡ audioRead addr ⌝ }
+pub fn audio_read(addr: CpuAddr) -> bool
+    ensures { λ r. ⌜ r ≡ audioRead (addr .0) ⌝ }
 {
-    (addr == 0x5010) | (addr == 0x5015)
+    (addr.0 == 0x5010) | (addr.0 == 0x5015)
 }

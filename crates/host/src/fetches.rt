@@ -15,6 +15,7 @@ use host_state::groups;
 use host_state::limits;
 use host_state::read;
 use host_state::tables;
+use memory::PpuAddr;
 use state::gate::Gate;
 use steps::ppu_side;
 
@@ -60,19 +61,20 @@ pub extern "C" fn mmc5_ppu_fetch(
     if let Gate::Shut(refusal) = gate {
         return told::plain(Answer::Refused(refusal));
     }
+    let at = PpuAddr(addr);
     let irq = read::detector_of(words);
-    if scanline::counter_refused(irq, addr) {
+    if scanline::counter_refused(irq, at) {
         return told::plain(Answer::Refused(Refusal::Counter));
     }
     let ppu = read::status_of(words);
     let regs = read::regs_of(words);
     let vsplit = read::split_of(words);
-    if scanline::tiles::counted(addr) {
-        let counted = ppu_side::count_fetch(regs, irq, ppu, vsplit, addr);
+    if scanline::tiles::counted(at) {
+        let counted = ppu_side::count_fetch(regs, irq, ppu, vsplit, at);
         let seen = counted.irq;
         let status = counted.ppu;
         let region = counted.vsplit;
-        let word = tables::chr_word(words, addr);
+        let word = tables::chr_word(words, at);
         let answer = ppu_side::counted_answer(
             regs,
             region,
@@ -84,16 +86,16 @@ pub extern "C" fn mmc5_ppu_fetch(
             ram,
             ciram,
             exram,
-            addr,
+            at,
         );
         groups::put_detector(seen, words);
         groups::put_tiles(status, words);
         groups::put_region(region, words);
         return told::with_interrupt(answer, seen);
     }
-    let chosen = ppu_side::chosen_at(ppu, irq.in_frame, addr);
+    let chosen = ppu_side::chosen_at(ppu, irq.in_frame, at);
     map_on_change(ppu.bg_set, chosen.bg_set, words);
-    let word = tables::chr_word(words, addr);
+    let word = tables::chr_word(words, at);
     let answer = ppu_side::other_answer(
         regs,
         vsplit,
@@ -105,7 +107,7 @@ pub extern "C" fn mmc5_ppu_fetch(
         ram,
         ciram,
         exram,
-        addr,
+        at,
     );
     groups::put_set(chosen, words);
     told::with_interrupt(answer, irq)

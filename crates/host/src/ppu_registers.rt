@@ -9,6 +9,7 @@ use host_state::gate;
 use host_state::groups;
 use host_state::limits;
 use host_state::read;
+use memory::CpuAddr;
 
 // A PPU register write.
 #[no_mangle]
@@ -19,10 +20,11 @@ pub extern "C" fn mmc5_ppu_register(words: &mut [u16; 144], addr: u16, val: u8) 
     if !gate::in_range(words) {
         return told::plain(Answer::Refused(Refusal::State));
     }
+    let at = CpuAddr(addr);
     let before = read::detector_of(words);
-    let irq = cpu::ppu_registers::detector_after(before, addr, val);
+    let irq = cpu::ppu_registers::detector_after(before, at, val);
     let status = read::status_of(words);
-    let ppu = cpu::ppu_registers::status_after(status, addr, val);
+    let ppu = cpu::ppu_registers::status_after(status, at, val);
     groups::put_status(ppu, words);
     groups::put_detector(irq, words);
     told::with_interrupt(Answer::Nothing, irq)

@@ -9,6 +9,7 @@ use host_state::gate;
 use host_state::limits;
 use host_state::read;
 use host_state::tables;
+use memory::PpuAddr;
 use state::gate::Gate;
 
 // A PPU memory write.
@@ -38,8 +39,9 @@ pub extern "C" fn mmc5_ppu_write(
     if let Gate::Shut(refusal) = gate {
         return told::plain(Answer::Refused(refusal));
     }
+    let at = PpuAddr(addr);
     let irq = read::detector_of(words);
-    let word = tables::chr_word(words, addr);
-    memory::bytes::store(chr, ram, ciram, exram, word, addr, val);
+    let word = tables::chr_word(words, at);
+    memory::bytes::store(chr, ram, ciram, exram, word, at.0 % 1024, val);
     told::with_interrupt(Answer::Nothing, irq)
 }

@@ -11,6 +11,7 @@ use host_state::groups;
 use host_state::limits;
 use host_state::read;
 use host_state::tables;
+use memory::CpuAddr;
 use state::gate::Gate;
 
 // A CPU read.
@@ -38,11 +39,12 @@ pub extern "C" fn mmc5_cpu_read(
     if let Gate::Shut(refusal) = gate {
         return told::plain(Answer::Refused(refusal));
     }
-    if cpu::reads::audio_read(addr) {
+    let at = CpuAddr(addr);
+    if cpu::reads::audio_read(at) {
         return told::plain(Answer::Refused(Refusal::Audio));
     }
     let irq = read::detector_of(words);
-    let word = tables::prg_word(words, addr);
+    let word = tables::prg_word(words, at);
     let regs = read::regs_of(words);
     let vsplit = read::split_of(words);
     let prg_banks = read::prg_banks_of(words);
@@ -59,9 +61,9 @@ pub extern "C" fn mmc5_cpu_read(
         ram,
         ciram,
         exram,
-        addr,
+        at,
     );
-    let after = cpu::reads::irq_read(irq, addr);
+    let after = cpu::reads::irq_read(irq, at);
     groups::put_detector(after, words);
     told::with_interrupt(answer, after)
 }

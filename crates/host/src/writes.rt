@@ -15,13 +15,14 @@ use host_state::groups;
 use host_state::limits;
 use host_state::read;
 use host_state::tables;
+use memory::CpuAddr;
 use state::gate::Gate;
 use steps::register_writes;
 
 // The words after a write to a register that maps PRG pages, and to any other.
-fn write_prg(words: &mut [u16; 144], addr: u16, val: u8)
-    requires { ⌜ (inRange (stateOf (now words)) ≡ true) × (mapsPrg addr ≡ true) ⌝ }
-    ensures { λ _. ⌜ now (words .exit) ≡ wordsOf (registerWritten (stateOf (now (words .entry))) addr val) ⌝ }
+fn write_prg(words: &mut [u16; 144], addr: CpuAddr, val: u8)
+    requires { ⌜ (inRange (stateOf (now words)) ≡ true) × (mapsPrg (addr .0) ≡ true) ⌝ }
+    ensures { λ _. ⌜ now (words .exit) ≡ wordsOf (registerWritten (stateOf (now (words .entry))) (addr .0) val) ⌝ }
 {
     limits::sized(*words);
     let lengths = read::lengths_of(words);
@@ -37,9 +38,9 @@ fn write_prg(words: &mut [u16; 144], addr: u16, val: u8)
     tables::put_prg_table(prg_pages, words);
 }
 
-fn write_other(words: &mut [u16; 144], addr: u16, val: u8)
-    requires { ⌜ (inRange (stateOf (now words)) ≡ true) × (mapsPrg addr ≡ false) ⌝ }
-    ensures { λ _. ⌜ now (words .exit) ≡ wordsOf (registerWritten (stateOf (now (words .entry))) addr val) ⌝ }
+fn write_other(words: &mut [u16; 144], addr: CpuAddr, val: u8)
+    requires { ⌜ (inRange (stateOf (now words)) ≡ true) × (mapsPrg (addr .0) ≡ false) ⌝ }
+    ensures { λ _. ⌜ now (words .exit) ≡ wordsOf (registerWritten (stateOf (now (words .entry))) (addr .0) val) ⌝ }
 {
     limits::sized(*words);
     let lengths = read::lengths_of(words);
@@ -50,7 +51,7 @@ fn write_other(words: &mut [u16; 144], addr: u16, val: u8)
     let mirroring = read::mirroring_of(words);
     let banks = read::chr_banks_of(words);
     let pages = tables::chr_table(words);
-    let exram = tables::prg_word(words, 0x5C00);
+    let exram = tables::prg_word(words, CpuAddr(0x5C00));
     let w = register_writes::write_other(
         lengths,
         regs,
@@ -109,12 +110,13 @@ pub extern "C" fn mmc5_cpu_write(
     if let Gate::Shut(refusal) = gate {
         return told::plain(Answer::Refused(refusal));
     }
-    if cpu::writes::audio_write(addr) {
+    let at = CpuAddr(addr);
+    if cpu::writes::audio_write(at) {
         return told::plain(Answer::Refused(Refusal::Audio));
     }
     let regs = read::regs_of(words);
     let ppu = read::status_of(words);
-    let word = tables::prg_word(words, addr);
+    let word = tables::prg_word(words, at);
     // First the bytes: no register maps the page that registers are written at.
     steps::cpu_side::store(
         chr,
@@ -124,14 +126,14 @@ pub extern "C" fn mmc5_cpu_write(
         regs.exram_mode,
         ppu.rendering,
         word,
-        addr,
+        at,
         val,
     );
-    if cpu::groups::is_within(0x5100, 0x5206, addr) {
-        if cpu::writes::maps_prg(addr) {
-            write_prg(words, addr, val);
+    if cpu::groups::is_within(0x5100, 0x5206, at) {
+        if cpu::writes::maps_prg(at) {
+            write_prg(words, at, val);
         } else {
-            write_other(words, addr, val);
+            write_other(words, at, val);
         }
     }
     let irq = read::detector_of(words);

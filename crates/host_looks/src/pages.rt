@@ -55,7 +55,7 @@ pub extern "C" fn mmc5_cpu_entry(words: &[u16; 144], addr: u16) -> u32
     ensures { λ r. ⌜ r ≡ entryOn (now (words .entry)) (λ (s : State). pageOf (prgWordAt (s .«prg_pages») addr)) ⌝ }
 {
     let in_range = gate::in_range(words);
-    let word = tables::prg_word(words, addr);
+    let word = tables::prg_word(words, CpuAddr(addr));
     let page = memory::words::page_of(word);
     if_in_range(in_range, entry_number(page))
 }
@@ -66,7 +66,7 @@ pub extern "C" fn mmc5_ppu_entry(words: &[u16; 144], addr: u16) -> u32
     ensures { λ r. ⌜ r ≡ entryOn (now (words .entry)) (λ (s : State). pageOf (chrWordAt (s .«chr_pages») addr)) ⌝ }
 {
     let in_range = gate::in_range(words);
-    let word = tables::chr_word(words, addr);
+    let word = tables::chr_word(words, PpuAddr(addr));
     let page = memory::words::page_of(word);
     if_in_range(in_range, entry_number(page))
 }

@@ -8,7 +8,9 @@ ghost use Rattle.memory.specs.Words.{pick, word};
 ghost use Rattle.host_state.specs.Put.{prgPageWords, chrPageWords};
 ghost use Rattle.host_state.specs.Words.{pagesOf, prgNumbers, chrNumbers};
 use crate::limits;
+use memory::CpuAddr;
 use memory::PageWord;
+use memory::PpuAddr;
 
 // No code: the lengths that the types say, of the bank registers and of the page tables.
 pub fn arrays_sized(
@@ -61,17 +63,17 @@ pub fn chr_ok(chr_len: u32, chr_writable: bool, words: &[u16; 144]) -> bool
 }
 
 // A page word: at a CPU address, and at a PPU address.
-pub fn prg_word(words: &[u16; 144], addr: u16) -> PageWord
-    ensures { λ r. ⌜ r ≡ getD (pagesOf (prgNumbers (now (words .entry)))) (addr / 1024) (word 0) ⌝ }
+pub fn prg_word(words: &[u16; 144], addr: CpuAddr) -> PageWord
+    ensures { λ r. ⌜ r ≡ getD (pagesOf (prgNumbers (now (words .entry)))) (addr .0 / 1024) (word 0) ⌝ }
 {
-    let n = words[64 + (addr / 1024) as usize];
+    let n = words[64 + (addr.0 / 1024) as usize];
     PageWord(n)
 }
 
-pub fn chr_word(words: &[u16; 144], addr: u16) -> PageWord
-    ensures { λ r. ⌜ r ≡ getD (pagesOf (chrNumbers (now (words .entry)))) (addr / 1024 % 16) (word 0) ⌝ }
+pub fn chr_word(words: &[u16; 144], addr: PpuAddr) -> PageWord
+    ensures { λ r. ⌜ r ≡ getD (pagesOf (chrNumbers (now (words .entry)))) (addr .0 / 1024 % 16) (word 0) ⌝ }
 {
-    let n = words[128 + (addr / 1024 % 16) as usize];
+    let n = words[128 + (addr.0 / 1024 % 16) as usize];
     PageWord(n)
 }
 

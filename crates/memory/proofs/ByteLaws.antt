@@ -10,9 +10,10 @@ use lib.ListN.{length, set}
 use Rattle.memory.specs.declared.Page.{Page}
 use Rattle.memory.specs.declared.PageWord.{PageWord}
 use Rattle.memory.specs.declared.Place.{Place}
-use Rattle.memory.specs.declared.Src.the-variants.{Blank}
+use Rattle.memory.specs.declared.Src.{Src}
+use Rattle.memory.specs.declared.Src.the-variants.{Blank, PrgRom, PrgRam, Chr, CiRam, ExRam}
 use Rattle.memory.specs.Words.{pageOf}
-use Rattle.memory.specs.Bytes.{offsetOf, placeOf}
+use Rattle.memory.specs.Bytes.{Mem, offsetOf, placeOf, pageStored}
 use Rattle.memory.proofs.WordLaws.{by-runs}
 
 -- A store past the end changes nothing.
@@ -34,3 +35,17 @@ blank-place w a h = simp (lt-ltb (w .0) 1 (omega arith))
 
 pub shown-place : (w : PageWord) (a : ℕ) → 1 ≤ w .0 → placeOf (pageOf w) a ≡ record { src = pageOf w .src; offset = pageOf w .index * 1024 + a % 1024 }
 shown-place w a h = rw (shown-offset w a h)
+
+-- Of an address a page looks at the offset within it alone.
+pub offset-low : (s : Src) (i a : ℕ) → offsetOf s i (a % 1024) ≡ offsetOf s i a
+unfolding offsetOf
+offset-low Blank i a = refl
+offset-low PrgRom i a = omega arith
+offset-low PrgRam i a = omega arith
+offset-low Chr i a = omega arith
+offset-low CiRam i a = omega arith
+offset-low ExRam i a = omega arith
+
+pub stored-low : (m : Mem) (p : Page) (a v : ℕ) → pageStored m p (a % 1024) v ≡ pageStored m p a v
+unfolding pageStored
+stored-low m p a v = rw (offset-low (p .src) (p .index) a)

@@ -78,16 +78,16 @@ pub fn store(
     ciram: &mut [u8],
     exram: &mut [u8],
     word: PageWord,
-    addr: u16,
+    offset: u16,
     val: u8,
 )
     ensures { λ _. ⌜ ((prg : List ℕ) → memOf prg (now (chr .exit)) (now (ram .exit)) (now (ciram .exit)) (now (exram .exit))
-        ≡ pageStored (memOf prg (now (chr .entry)) (now (ram .entry)) (now (ciram .entry)) (now (exram .entry))) (pageOf word) addr val) ⌝ }
+        ≡ pageStored (memOf prg (now (chr .entry)) (now (ram .entry)) (now (ciram .entry)) (now (exram .entry))) (pageOf word) offset val) ⌝ }
 {
     let page = words::page_of(word);
     let open = page.writable;
     if open {
-        let place = words::place_of(word, addr);
+        let place = words::place_of(word, offset);
         store_at(chr, ram, ciram, exram, place, val);
     }
 }

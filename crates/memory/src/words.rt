@@ -90,9 +90,9 @@ pub fn page_of(word: PageWord) -> Page
     }
 }
 
-// The byte that an address shows through a page word. Blank has the place 0 only.
-pub fn place_of(word: PageWord, addr: u16) -> Place
-    ensures { λ r. ⌜ r ≡ placeOf (pageOf word) addr ⌝ }
+// The byte at an offset within the page that a word names. Blank has the place 0 only.
+pub fn place_of(word: PageWord, offset: u16) -> Place
+    ensures { λ r. ⌜ r ≡ placeOf (pageOf word) offset ⌝ }
 {
     let n = word.0;
     if n == 0 {
@@ -105,6 +105,6 @@ pub fn place_of(word: PageWord, addr: u16) -> Place
     let src = page.src;
     Place {
         src,
-        offset: page.index as usize * 1024 + (addr % 1024) as usize,
+        offset: page.index as usize * 1024 + (offset % 1024) as usize,
     }
 }

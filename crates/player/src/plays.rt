@@ -54,11 +54,10 @@ pub fn play(
                     continue;
                 }
                 Call::CpuRead(addr) => {
-                    let a = addr.0;
-                    if cpu::reads::audio_read(a) {
+                    if cpu::reads::audio_read(addr) {
                         break Ending::Stopped(at, Refusal::Audio);
                     }
-                    let k = (a / 1024) as usize;
+                    let k = (addr.0 / 1024) as usize;
                     let word = t.prg_pages[k];
                     let prg_banks = t.prg_banks;
                     let chr_banks = t.chr_banks;
@@ -74,9 +73,9 @@ pub fn play(
                         ram,
                         ciram,
                         exram,
-                        a,
+                        addr,
                     );
-                    let irq = cpu::reads::irq_read(t.irq, a);
+                    let irq = cpu::reads::irq_read(t.irq, addr);
                     t.irq = irq;
                     logs::log_record(log, count, answer, irq);
                     count += 1;
@@ -84,28 +83,27 @@ pub fn play(
                     continue;
                 }
                 Call::CpuWrite(addr, val) => {
-                    let a = addr.0;
-                    if cpu::writes::audio_write(a) {
+                    if cpu::writes::audio_write(addr) {
                         break Ending::Stopped(at, Refusal::Audio);
                     }
-                    let k = (a / 1024) as usize;
+                    let k = (addr.0 / 1024) as usize;
                     let word = t.prg_pages[k];
                     let mode = t.regs.exram_mode;
                     let rendering = t.ppu.rendering;
                     // First the bytes: no register maps the page that registers are written at.
-                    cpu_side::store(chr, ram, ciram, exram, mode, rendering, word, a, val);
-                    if !cpu::groups::is_within(0x5100, 0x5206, a) {
+                    cpu_side::store(chr, ram, ciram, exram, mode, rendering, word, addr, val);
+                    if !cpu::groups::is_within(0x5100, 0x5206, addr) {
                         logs::log_record(log, count, Answer::Nothing, t.irq);
                         count += 1;
                         at = next;
                         continue;
                     }
                     let lengths = t.lengths;
-                    let regs = registers::write(t.regs, a, val);
+                    let regs = registers::write(t.regs, addr, val);
                     t.regs = regs;
-                    if cpu::writes::maps_prg(a) {
+                    if cpu::writes::maps_prg(addr) {
                         let old_banks = t.prg_banks;
-                        let banks = cpu::groups::prg_banks_after(old_banks, a, val);
+                        let banks = cpu::groups::prg_banks_after(old_banks, addr, val);
                         let old_pages = t.prg_pages;
                         let pages = banks::prg::map_prg(lengths, regs, banks, old_pages);
                         t.prg_banks = banks;
@@ -115,15 +113,15 @@ pub fn play(
                         at = next;
                         continue;
                     }
-                    let ppu = cpu::chosen::ppu_after(t.ppu, t.irq.in_frame, a);
-                    let vsplit = cpu::groups::split_after(t.vsplit, a, val);
-                    let irq = cpu::groups::irq_after(t.irq, a, val);
+                    let ppu = cpu::chosen::ppu_after(t.ppu, t.irq.in_frame, addr);
+                    let vsplit = cpu::groups::split_after(t.vsplit, addr, val);
+                    let irq = cpu::groups::irq_after(t.irq, addr, val);
                     let old_screen = t.screen;
                     let old_mirroring = old_screen.mirroring;
-                    let mirroring = registers::mirroring_after(old_mirroring, a, val);
+                    let mirroring = registers::mirroring_after(old_mirroring, addr, val);
                     let screen = Screen { mirroring };
                     let old_banks = t.chr_banks;
-                    let banks = cpu::groups::chr_banks_after(old_banks, a, val);
+                    let banks = cpu::groups::chr_banks_after(old_banks, addr, val);
                     let old_pages = t.chr_pages;
                     let pages = cpu::writes::chr_pages_after(
                         lengths,
@@ -131,9 +129,9 @@ pub fn play(
                         banks,
                         ppu.bg_set,
                         old_pages,
-                        a,
+                        addr,
                     );
-                    let at_5c00 = cpu_side::exram_word(t.prg_pages[23], regs.exram_mode, a);
+                    let at_5c00 = cpu_side::exram_word(t.prg_pages[23], regs.exram_mode, addr);
                     t.vsplit = vsplit;
                     t.irq = irq;
                     t.ppu = ppu;
@@ -147,9 +145,8 @@ pub fn play(
                     continue;
                 }
                 Call::PpuRegister(addr, val) => {
-                    let a = addr.0;
-                    let ppu = cpu::ppu_registers::status_after(t.ppu, a, val);
-                    let irq = cpu::ppu_registers::detector_after(t.irq, a, val);
+                    let ppu = cpu::ppu_registers::status_after(t.ppu, addr, val);
+                    let irq = cpu::ppu_registers::detector_after(t.irq, addr, val);
                     t.ppu = ppu;
                     t.irq = irq;
                     logs::log_record(log, count, Answer::Nothing, irq);
@@ -158,13 +155,12 @@ pub fn play(
                     continue;
                 }
                 Call::PpuFetch(addr) => {
-                    let a = addr.0;
-                    if scanline::counter_refused(t.irq, a) {
+                    if scanline::counter_refused(t.irq, addr) {
                         break Ending::Stopped(at, Refusal::Counter);
                     }
-                    let k = (a / 1024 % 16) as usize;
-                    if scanline::tiles::counted(a) {
-                        let groups = ppu_side::count_fetch(t.regs, t.irq, t.ppu, t.vsplit, a);
+                    let k = (addr.0 / 1024 % 16) as usize;
+                    if scanline::tiles::counted(addr) {
+                        let groups = ppu_side::count_fetch(t.regs, t.irq, t.ppu, t.vsplit, addr);
                         let irq = groups.irq;
                         let ppu = groups.ppu;
                         let vsplit = groups.vsplit;
@@ -183,14 +179,14 @@ pub fn play(
                             ram,
                             ciram,
                             exram,
-                            a,
+                            addr,
                         );
                         logs::log_record(log, count, answer, irq);
                         count += 1;
                         at = next;
                         continue;
                     }
-                    let ppu = ppu_side::chosen_at(t.ppu, t.irq.in_frame, a);
+                    let ppu = ppu_side::chosen_at(t.ppu, t.irq.in_frame, addr);
                     if cpu::chosen::set_changed(t.ppu.bg_set, ppu.bg_set) {
                         let lengths = t.lengths;
                         let banks = t.chr_banks;
@@ -217,7 +213,7 @@ pub fn play(
                         ram,
                         ciram,
                         exram,
-                        a,
+                        addr,
                     );
                     logs::log_record(log, count, answer, t.irq);
                     count += 1;
@@ -233,10 +229,9 @@ pub fn play(
                     continue;
                 }
                 Call::PpuWrite(addr, val) => {
-                    let a = addr.0;
-                    let k = (a / 1024 % 16) as usize;
+                    let k = (addr.0 / 1024 % 16) as usize;
                     let word = t.chr_pages[k];
-                    memory::bytes::store(chr, ram, ciram, exram, word, a, val);
+                    memory::bytes::store(chr, ram, ciram, exram, word, addr.0 % 1024, val);
                     logs::log_record(log, count, Answer::Nothing, t.irq);
                     count += 1;
                     at = next;

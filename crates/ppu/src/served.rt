@@ -4,6 +4,7 @@ ghost use mathlib.Core.Bool.{_&&_, not};
 ghost use lib.ListN.{getD};
 ghost use Rattle.ppu.specs.Served.{direct, exOffset, splitByte, fillByte, countedServed, patternServed, spriteByte};
 use answers::Answer;
+use memory::PpuAddr;
 use registers::Regs;
 use scanline::Detector;
 use split::VSplit;
@@ -21,10 +22,10 @@ pub fn direct_byte(chr: &[u8], offset: usize) -> u8
 }
 
 // In attribute mode: the CHR offset that a tile's ExRAM byte and $5130 name.
-pub fn ex_offset(hi: u16, byte: u8, addr: u16) -> u32
-    ensures { λ r. ⌜ r ≡ exOffset hi byte addr ⌝ }
+pub fn ex_offset(hi: u16, byte: u8, addr: PpuAddr) -> u32
+    ensures { λ r. ⌜ r ≡ exOffset hi byte (addr .0) ⌝ }
 {
-    (hi as u32 * 1024) | ((byte % 64) as u32 * 4096) | (addr % 4096) as u32
+    (hi as u32 * 1024) | ((byte % 64) as u32 * 4096) | (addr.0 % 4096) as u32
 }
 
 // In the split's region: the tile's number for a name fetch, else its attribute.
@@ -58,10 +59,10 @@ pub fn counted_served(
     in_frame: bool,
     p: PpuStatus,
     exram: &[u8],
-    addr: u16,
+    addr: PpuAddr,
     page: Answer,
 ) -> Answer
-    ensures { λ r. ⌜ r ≡ countedServed regs v «in_frame» p (now (exram .entry)) addr page ⌝ }
+    ensures { λ r. ⌜ r ≡ countedServed regs v «in_frame» p (now (exram .entry)) (addr .0) page ⌝ }
 {
     let as_name = registers::nametable_use(regs);
     let attribute = scanline::tiles::attribute_address(addr);
@@ -76,7 +77,7 @@ pub fn counted_served(
         let byte = memory::bytes::byte(exram, p.tile_cache as usize);
         return Answer::Served(split::places::mirrored(byte / 64));
     }
-    let selector = banks::names::selector_of(regs.nametables, (addr / 1024) as u32);
+    let selector = banks::names::selector_of(regs.nametables, (addr.0 / 1024) as u32);
     if as_name & (selector == 3) {
         return Answer::Served(fill_byte(regs, attribute));
     }
@@ -91,10 +92,10 @@ pub fn pattern_served(
     p: PpuStatus,
     exram: &[u8],
     chr: &[u8],
-    addr: u16,
+    addr: PpuAddr,
     page: Answer,
 ) -> Answer
-    ensures { λ r. ⌜ r ≡ patternServed regs v irq p (now (exram .entry)) (now (chr .entry)) addr page ⌝ }
+    ensures { λ r. ⌜ r ≡ patternServed regs v irq p (now (exram .entry)) (now (chr .entry)) (addr .0) page ⌝ }
 {
     let as_name = registers::nametable_use(regs);
     let active = split::control::active(v, as_name, irq.in_frame);
@@ -115,9 +116,9 @@ pub fn pattern_served(
 }
 
 // The byte that the sprites' set would map at a pattern address.
-pub fn sprite_byte(regs: Regs, banks: [u8; 16], chr: &[u8], addr: u16) -> u8
-    ensures { λ r. ⌜ r ≡ spriteByte regs banks (now (chr .entry)) addr ⌝ }
+pub fn sprite_byte(regs: Regs, banks: [u8; 16], chr: &[u8], addr: PpuAddr) -> u8
+    ensures { λ r. ⌜ r ≡ spriteByte regs banks (now (chr .entry)) (addr .0) ⌝ }
 {
-    let number = banks::chr::chr_number(regs, banks, false, (addr / 1024 % 8) as usize);
-    direct_byte(chr, number as usize * 1024 + (addr % 1024) as usize)
+    let number = banks::chr::chr_number(regs, banks, false, (addr.0 / 1024 % 8) as usize);
+    direct_byte(chr, number as usize * 1024 + (addr.0 % 1024) as usize)
 }

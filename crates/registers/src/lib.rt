@@ -4,6 +4,7 @@ ghost use mathlib.Core.Path.{_≡_};
 ghost use Rattle.memory.specs.Words.{pick};
 ghost use Rattle.registers.specs.Registers.{regsAtLoad, resetRegs, written, attributeUse, nametableUse, unlocked, regsOk};
 ghost use Rattle.registers.specs.Mirrorings.{mirroringOf, mirroringAfter};
+use memory::CpuAddr;
 
 // `exram_chosen` says that $5104 was written: nametable use is off before.
 pub struct Regs {
@@ -88,12 +89,13 @@ fn chr_mode_for(regs: Regs, mode: u8) -> u8
 }
 
 // A CPU write.
-pub fn write(regs: Regs, addr: u16, val: u8) -> Regs
-    ensures { λ r. ⌜ r ≡ written regs addr val ⌝ }
+pub fn write(regs: Regs, addr: CpuAddr, val: u8) -> Regs
+    ensures { λ r. ⌜ r ≡ written regs (addr .0) val ⌝ }
 {
     let mut next = regs;
     let low = val % 4;
-    match addr {
+    let a = addr.0;
+    match a {
         0x5100 => next.prg_mode = low,
         0x5101 => next.chr_mode = chr_mode_for(regs, low),
         0x5102 => next.protect_a = low,
@@ -126,10 +128,10 @@ fn mirroring_of(val: u8) -> Mirroring
     }
 }
 
-pub fn mirroring_after(mirroring: Mirroring, addr: u16, val: u8) -> Mirroring
-    ensures { λ r. ⌜ r ≡ mirroringAfter mirroring addr val ⌝ }
+pub fn mirroring_after(mirroring: Mirroring, addr: CpuAddr, val: u8) -> Mirroring
+    ensures { λ r. ⌜ r ≡ mirroringAfter mirroring (addr .0) val ⌝ }
 {
-    if addr == 0x5105 {
+    if addr.0 == 0x5105 {
         mirroring_of(val)
     } else {
         mirroring

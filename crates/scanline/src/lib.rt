@@ -46,16 +46,16 @@ pub fn new() -> Detector
 }
 
 // Held at 255, as in the Rust: a long run is no new line.
-fn matched(d: Detector, addr: u16) -> u8
-    ensures { λ r. ⌜ r ≡ matchesAfter d addr ⌝ }
+fn matched(d: Detector, addr: PpuAddr) -> u8
+    ensures { λ r. ⌜ r ≡ matchesAfter d (addr .0) ⌝ }
 {
-    if addr > 0x2FFF {
+    if addr.0 > 0x2FFF {
         return 0;
     }
     if !d.prev_some {
         return 0;
     }
-    if addr != d.prev_addr.0 {
+    if addr.0 != d.prev_addr.0 {
         return 0;
     }
     if d.match_count == 255 {
@@ -76,15 +76,14 @@ fn line_number(d: Detector) -> u16
 }
 
 // A fetch at $2000-$3EFF. The match count that it leaves is what `tiles::tiles_after` asks for.
-pub fn seen(d: Detector, addr: u16) -> Detector
+pub fn seen(d: Detector, addr: PpuAddr) -> Detector
     requires { ⌜ d .scanline < 65535 ⌝ }
-    ensures { λ r. ⌜ r ≡ seenAt d addr ⌝ }
+    ensures { λ r. ⌜ r ≡ seenAt d (addr .0) ⌝ }
 {
     let matches = matched(d, addr);
-    let prev = PpuAddr(addr);
     let mut n = d;
     n.prev_some = true;
-    n.prev_addr = prev;
+    n.prev_addr = addr;
     n.match_count = matches;
     n.reading = true;
     if matches != 2 {
@@ -97,15 +96,15 @@ pub fn seen(d: Detector, addr: u16) -> Detector
 }
 
 // The line counter would pass 65,279. Out of frame it holds what the last frame left, and starts anew.
-fn line_refused(d: Detector, addr: u16) -> bool
-    ensures { λ r. ⌜ r ≡ lineRefused d addr ⌝ }
+fn line_refused(d: Detector, addr: PpuAddr) -> bool
+    ensures { λ r. ⌜ r ≡ lineRefused d (addr .0) ⌝ }
 {
     (matched(d, addr) == 2) & (d.in_frame & (d.scanline > 65278))
 }
 
 // Refusal 7.
-pub fn counter_refused(d: Detector, addr: u16) -> bool
-    ensures { λ r. ⌜ r ≡ counterRefused d addr ⌝ }
+pub fn counter_refused(d: Detector, addr: PpuAddr) -> bool
+    ensures { λ r. ⌜ r ≡ counterRefused d (addr .0) ⌝ }
 {
     tiles::counted(addr) & line_refused(d, addr)
 }

@@ -5,24 +5,25 @@ ghost use mathlib.Core.Path.{_≡_};
 ghost use mathlib.Core.Bool.{true};
 ghost use Rattle.scanline.specs.Fetches.{countedAt, attributeAt, nameAt};
 ghost use Rattle.scanline.specs.Tiles.{spriteFetch, columnOf, isPrefetched, isFirst, tilesOk, nextTile, raisedBy, leftAfter};
+use memory::PpuAddr;
 
 // $2000-$3EFF: "Only fetches at $2000-$3EFF count here."
-pub fn counted(addr: u16) -> bool
-    ensures { λ r. ⌜ r ≡ countedAt addr ⌝ }
+pub fn counted(addr: PpuAddr) -> bool
+    ensures { λ r. ⌜ r ≡ countedAt (addr .0) ⌝ }
 {
-    (addr >= 0x2000) & (addr <= 0x3EFF)
+    (addr.0 >= 0x2000) & (addr.0 <= 0x3EFF)
 }
 
-pub fn attribute_address(addr: u16) -> bool
-    ensures { λ r. ⌜ r ≡ attributeAt addr ⌝ }
+pub fn attribute_address(addr: PpuAddr) -> bool
+    ensures { λ r. ⌜ r ≡ attributeAt (addr .0) ⌝ }
 {
-    addr % 1024 >= 0x3C0
+    addr.0 % 1024 >= 0x3C0
 }
 
-pub fn name_fetch(addr: u16) -> bool
-    ensures { λ r. ⌜ r ≡ nameAt addr ⌝ }
+pub fn name_fetch(addr: PpuAddr) -> bool
+    ensures { λ r. ⌜ r ≡ nameAt (addr .0) ⌝ }
 {
-    (addr >= 0x2000) & ((addr <= 0x2FFF) & !attribute_address(addr))
+    (addr.0 >= 0x2000) & ((addr.0 <= 0x2FFF) & !attribute_address(addr))
 }
 
 // Name fetches 32-39 of a line are those that the PPU makes while it fetches sprite patterns.
@@ -72,9 +73,9 @@ fn next_tile(tiles: u32) -> u32
 }
 
 // As the tile cache finds the count: one more for a name fetch.
-pub fn tiles_raised(tiles: u32, addr: u16) -> u32
+pub fn tiles_raised(tiles: u32, addr: PpuAddr) -> u32
     requires { ⌜ tilesOk tiles ≡ true ⌝ }
-    ensures { λ r. ⌜ r ≡ raisedBy tiles addr ⌝ }
+    ensures { λ r. ⌜ r ≡ raisedBy tiles (addr .0) ⌝ }
 {
     if name_fetch(addr) {
         return next_tile(tiles);

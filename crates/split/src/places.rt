@@ -2,6 +2,7 @@
 ghost use mathlib.Core.Path.{_≡_};
 ghost use Rattle.split.specs.Places.{attributePlace, attributeBits, mirroredByte, patternOffset};
 use crate::AttributePlace;
+use memory::PpuAddr;
 
 // An attribute byte serves four by four tiles: eight bytes for a row of them, from $3C0 on, and two bits for two by two tiles.
 pub fn attribute_place(t: u16) -> AttributePlace
@@ -34,8 +35,8 @@ pub fn mirrored(bits: u8) -> u8
 }
 
 // The split's 4k page, the tile's line from the split's own scroll.
-pub fn pattern_offset(bank: u8, addr: u16, scroll: u16) -> u32
-    ensures { λ r. ⌜ r ≡ patternOffset bank addr scroll ⌝ }
+pub fn pattern_offset(bank: u8, addr: PpuAddr, scroll: u16) -> u32
+    ensures { λ r. ⌜ r ≡ patternOffset bank (addr .0) scroll ⌝ }
 {
-    bank as u32 * 4096 + addr as u32 / 8 % 512 * 8 + scroll as u32 % 8
+    bank as u32 * 4096 + addr.0 as u32 / 8 % 512 * 8 + scroll as u32 % 8
 }

@@ -8,6 +8,7 @@ ghost use Rattle.cpu.specs.Reads.{pageAnswer, registerRead};
 ghost use Rattle.cpu.specs.Writes.{latched};
 ghost use Rattle.steps.specs.Sides.{exramWord};
 use answers::Answer;
+use memory::CpuAddr;
 use memory::PageWord;
 use registers::Regs;
 use scanline::Detector;
@@ -26,12 +27,12 @@ pub fn read(
     ram: &[u8],
     ciram: &[u8],
     exram: &[u8],
-    addr: u16,
+    addr: CpuAddr,
 ) -> Answer
-    ensures { λ r. ⌜ r ≡ registerRead regs vsplit irq «prg_banks» «chr_banks» addr
-        (pageAnswer (memOf (now (prg .entry)) (now (chr .entry)) (now (ram .entry)) (now (ciram .entry)) (now (exram .entry))) (pageOf word) addr) ⌝ }
+    ensures { λ r. ⌜ r ≡ registerRead regs vsplit irq «prg_banks» «chr_banks» (addr .0)
+        (pageAnswer (memOf (now (prg .entry)) (now (chr .entry)) (now (ram .entry)) (now (ciram .entry)) (now (exram .entry))) (pageOf word) (addr .0)) ⌝ }
 {
-    let page = cpu::reads::page_answer(prg, chr, ram, ciram, exram, word, addr);
+    let page = cpu::reads::page_answer(prg, chr, ram, ciram, exram, word, addr.0 % 1024);
     if cpu::groups::is_within(0x5100, 0x5206, addr) {
         return cpu::reads::register_or(regs, vsplit, irq, prg_banks, chr_banks, addr, page);
     }
@@ -47,21 +48,21 @@ pub fn store(
     mode: u8,
     rendering: bool,
     word: PageWord,
-    addr: u16,
+    addr: CpuAddr,
     val: u8,
 )
     ensures { λ _. ⌜ ((prg : List ℕ) → memOf prg (now (chr .exit)) (now (ram .exit)) (now (ciram .exit)) (now (exram .exit))
-        ≡ pageStored (memOf prg (now (chr .entry)) (now (ram .entry)) (now (ciram .entry)) (latched mode rendering addr val (now (exram .entry)))) (pageOf word) addr val) ⌝ }
+        ≡ pageStored (memOf prg (now (chr .entry)) (now (ram .entry)) (now (ciram .entry)) (latched mode rendering (addr .0) val (now (exram .entry)))) (pageOf word) (addr .0) val) ⌝ }
 {
     cpu::writes::latch(exram, mode, rendering, addr, val);
-    memory::bytes::store(chr, ram, ciram, exram, word, addr, val);
+    memory::bytes::store(chr, ram, ciram, exram, word, addr.0 % 1024, val);
 }
 
 // ExRAM's page in the PRG table, at $5C00, after a write; `mode` is the ExRAM mode after it.
-pub fn exram_word(word: PageWord, mode: u8, addr: u16) -> PageWord
-    ensures { λ r. ⌜ r ≡ exramWord word mode addr ⌝ }
+pub fn exram_word(word: PageWord, mode: u8, addr: CpuAddr) -> PageWord
+    ensures { λ r. ⌜ r ≡ exramWord word mode (addr .0) ⌝ }
 {
-    if addr == 0x5104 {
+    if addr.0 == 0x5104 {
         return banks::prg::exram_page(mode);
     }
     word

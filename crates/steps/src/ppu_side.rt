@@ -15,6 +15,7 @@ ghost use Rattle.ppu.specs.Served.{countedServed, patternServed};
 ghost use Rattle.steps.specs.Sides.{chosenAt};
 use answers::Answer;
 use memory::PageWord;
+use memory::PpuAddr;
 use registers::Regs;
 use scanline::Detector;
 use split::VSplit;
@@ -28,10 +29,16 @@ pub struct Counted {
     pub vsplit: VSplit,
 }
 
-pub fn count_fetch(regs: Regs, irq: Detector, ppu: PpuStatus, vsplit: VSplit, addr: u16) -> Counted
+pub fn count_fetch(
+    regs: Regs,
+    irq: Detector,
+    ppu: PpuStatus,
+    vsplit: VSplit,
+    addr: PpuAddr,
+) -> Counted
     requires { ⌜ (detectorOk irq ≡ true) × (tilesOk (ppu .«tile_number») ≡ true) ⌝ }
-    ensures { λ r. ⌜ (r .irq ≡ seenAt irq addr) × ((r .ppu ≡ ppuSeen regs (seenAt irq addr .«match_count») ppu addr)
-        × (r .vsplit ≡ splitSeen regs vsplit (seenAt irq addr) (ppuSeen regs (seenAt irq addr .«match_count») ppu addr .«tile_number») addr)) ⌝ }
+    ensures { λ r. ⌜ (r .irq ≡ seenAt irq (addr .0)) × ((r .ppu ≡ ppuSeen regs (seenAt irq (addr .0) .«match_count») ppu (addr .0))
+        × (r .vsplit ≡ splitSeen regs vsplit (seenAt irq (addr .0)) (ppuSeen regs (seenAt irq (addr .0) .«match_count») ppu (addr .0) .«tile_number») (addr .0))) ⌝ }
 {
     let seen = scanline::seen(irq, addr);
     let status = ppu::fetches::ppu_seen(regs, seen.match_count, ppu, addr);
@@ -55,20 +62,20 @@ pub fn counted_answer(
     ram: &[u8],
     ciram: &[u8],
     exram: &[u8],
-    addr: u16,
+    addr: PpuAddr,
 ) -> Answer
-    ensures { λ r. ⌜ r ≡ countedServed regs vsplit «in_frame» ppu (now (exram .entry)) addr
-        (pageAnswer (memOf (now (prg .entry)) (now (chr .entry)) (now (ram .entry)) (now (ciram .entry)) (now (exram .entry))) (pageOf word) addr) ⌝ }
+    ensures { λ r. ⌜ r ≡ countedServed regs vsplit «in_frame» ppu (now (exram .entry)) (addr .0)
+        (pageAnswer (memOf (now (prg .entry)) (now (chr .entry)) (now (ram .entry)) (now (ciram .entry)) (now (exram .entry))) (pageOf word) (addr .0)) ⌝ }
 {
-    let page = cpu::reads::page_answer(prg, chr, ram, ciram, exram, word, addr);
+    let page = cpu::reads::page_answer(prg, chr, ram, ciram, exram, word, addr.0 % 1024);
     ppu::served::counted_served(regs, vsplit, in_frame, ppu, exram, addr, page)
 }
 
 // The CHR set after any other fetch.
-pub fn chosen_at(ppu: PpuStatus, in_frame: bool, addr: u16) -> PpuStatus
-    ensures { λ r. ⌜ r ≡ chosenAt ppu «in_frame» addr ⌝ }
+pub fn chosen_at(ppu: PpuStatus, in_frame: bool, addr: PpuAddr) -> PpuStatus
+    ensures { λ r. ⌜ r ≡ chosenAt ppu «in_frame» (addr .0) ⌝ }
 {
-    if addr < 0x2000 {
+    if addr.0 < 0x2000 {
         return cpu::chosen::choose(ppu, in_frame);
     }
     ppu
@@ -103,15 +110,15 @@ pub fn other_answer(
     ram: &[u8],
     ciram: &[u8],
     exram: &[u8],
-    addr: u16,
+    addr: PpuAddr,
 ) -> Answer
-    ensures { λ r. ⌜ r ≡ pick (ltb addr 0x2000)
-        (patternServed regs vsplit irq ppu (now (exram .entry)) (now (chr .entry)) addr
-        (pageAnswer (memOf (now (prg .entry)) (now (chr .entry)) (now (ram .entry)) (now (ciram .entry)) (now (exram .entry))) (pageOf word) addr))
-        (pageAnswer (memOf (now (prg .entry)) (now (chr .entry)) (now (ram .entry)) (now (ciram .entry)) (now (exram .entry))) (pageOf word) addr) ⌝ }
+    ensures { λ r. ⌜ r ≡ pick (ltb (addr .0) 0x2000)
+        (patternServed regs vsplit irq ppu (now (exram .entry)) (now (chr .entry)) (addr .0)
+        (pageAnswer (memOf (now (prg .entry)) (now (chr .entry)) (now (ram .entry)) (now (ciram .entry)) (now (exram .entry))) (pageOf word) (addr .0)))
+        (pageAnswer (memOf (now (prg .entry)) (now (chr .entry)) (now (ram .entry)) (now (ciram .entry)) (now (exram .entry))) (pageOf word) (addr .0)) ⌝ }
 {
-    let page = cpu::reads::page_answer(prg, chr, ram, ciram, exram, word, addr);
-    if addr < 0x2000 {
+    let page = cpu::reads::page_answer(prg, chr, ram, ciram, exram, word, addr.0 % 1024);
+    if addr.0 < 0x2000 {
         return ppu::served::pattern_served(regs, vsplit, irq, ppu, exram, chr, addr, page);
     }
     page

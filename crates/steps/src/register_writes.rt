@@ -4,6 +4,7 @@ ghost use mathlib.Core.Bool.{true};
 ghost use Rattle.state.specs.Lengths.{lengthsOk};
 ghost use Rattle.steps.specs.Writes.{prgWrite, otherWrite};
 use crate::cpu_side;
+use memory::CpuAddr;
 use memory::PageWord;
 use registers::Mirroring;
 use registers::Regs;
@@ -24,11 +25,11 @@ pub fn write_prg(
     regs: Regs,
     banks: [u8; 5],
     pages: [PageWord; 64],
-    addr: u16,
+    addr: CpuAddr,
     val: u8,
 ) -> PrgWrite
     requires { ⌜ lengthsOk lengths ≡ true ⌝ }
-    ensures { λ r. ⌜ r ≡ prgWrite lengths regs banks pages addr val ⌝ }
+    ensures { λ r. ⌜ r ≡ prgWrite lengths regs banks pages (addr .0) val ⌝ }
 {
     let written = registers::write(regs, addr, val);
     let next = cpu::groups::prg_banks_after(banks, addr, val);
@@ -62,10 +63,10 @@ pub fn write_other(
     banks: [u8; 16],
     pages: [PageWord; 16],
     exram: PageWord,
-    addr: u16,
+    addr: CpuAddr,
     val: u8,
 ) -> OtherWrite
-    ensures { λ r. ⌜ r ≡ otherWrite lengths regs vsplit irq ppu mirroring banks pages exram addr val ⌝ }
+    ensures { λ r. ⌜ r ≡ otherWrite lengths regs vsplit irq ppu mirroring banks pages exram (addr .0) val ⌝ }
 {
     let written = registers::write(regs, addr, val);
     let split = cpu::groups::split_after(vsplit, addr, val);

@@ -40,9 +40,8 @@ pub fn cpu_view<'a>(
     if let Gate::Shut(_) = gate {
         return &prg[..0];
     }
-    let a = addr.0;
     let pages = s.prg_pages;
-    let word = cpu::writes::prg_word_at(pages, a);
+    let word = cpu::writes::prg_word_at(pages, addr);
     let page = memory::words::page_of(word);
     let src = page.src;
     let from = page.index as usize * 1024;
@@ -72,9 +71,8 @@ pub fn ppu_view<'a>(
     if let Gate::Shut(_) = gate {
         return &chr[..0];
     }
-    let a = addr.0;
     let pages = s.chr_pages;
-    let word = board_ppu::pages::chr_word_at(pages, a);
+    let word = board_ppu::pages::chr_word_at(pages, addr);
     let page = memory::words::page_of(word);
     let src = page.src;
     let from = page.index as usize * 1024;

@@ -10,12 +10,12 @@ returns c = rw (← c .before .before .before .passed .ensures, c .before .gate 
 
 returns-2 : tie.Need-returns-2
 unfolding spritePeek
-returns-2 c = rw (← c .before .before .before .before .passed .ensures, c .before .before .enum-told .given .1, c .if1 .taken)
+returns-2 c = rw (← c .before .before .before .before .before .passed .ensures, c .before .before .before .enum-told .given .1, c .if1 .taken)
 
 returns-3 : tie.Need-returns-3
 unfolding spritePeek
 returns-3 c =
-    let at-enum-told = c .before .before .before .before in
+    let at-enum-told = c .before .before .before .before .before in
     rw (
       ← at-enum-told .before .before .passed .ensures,
       at-enum-told .enum-told .given .1,

@@ -1,6 +1,7 @@
 -- The gate, then the store through the page, for the buffers too.
 use mathlib.Core.Path.{ap, _∙_}
 use borrow.Author.Needs.{needs}
+use Rattle.memory.proofs.ByteLaws.{stored-low}
 use Rattle.board.specs.Outcomes.{afterOf}
 use Rattle.board_ppu.specs.Peeks.{ppuWrite}
 use Rattle.board_ppu.proofs.stores.ppu_write.Statement.{statement}
@@ -14,11 +15,11 @@ returns-2 : tie.Need-returns-2
 unfolding ppuWrite
 returns-2 c =
     let at-store = c .before .before .before .before .before .before .before .before in
-    let at-chr-word-at = at-store .before .before .before .before .before in
+    let at-chr-word-at = at-store .before .before .before .before .before .before in
     rw (
       ← at-chr-word-at .before .before .before .before .passed .ensures,
       at-chr-word-at .before .before .enum-told .given .1,
-    ) (ap (afterOf _) (at-store .store .ensures _ ∙ rw (at-chr-word-at .chr-word-at .ensures)))
+    ) (ap (afterOf _) (at-store .store .ensures _ ∙ stored-low _ _ _ _ ∙ rw (at-chr-word-at .chr-word-at .ensures)))
 
 pub ppu-write-spec : {M : Type 1} → statement M
 ppu-write-spec =

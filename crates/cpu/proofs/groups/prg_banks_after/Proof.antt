@@ -10,19 +10,19 @@ use Rattle.cpu.proofs.groups.prg_banks_after.Tie as tie
 
 sub-at : tie.Need-sub-at
 sub-at c =
-    let lo : 0x5113 ≤ c .before .before .args .addr = from 0x5113 0x5117 _ (sym (c .before .is-within .ensures) ∙ c .if1 .taken) in
-    let hi : c .before .before .args .addr ≤ 0x5117 = upto 0x5113 0x5117 _ (sym (c .before .is-within .ensures) ∙ c .if1 .taken) in
+    let lo : 0x5113 ≤ c .before .before .before .args .addr .0 = from 0x5113 0x5117 _ (sym (c .before .before .is-within .ensures) ∙ c .before .if1 .taken) in
+    let hi : c .before .before .before .args .addr .0 ≤ 0x5117 = upto 0x5113 0x5117 _ (sym (c .before .before .is-within .ensures) ∙ c .before .if1 .taken) in
     omega arith
 
 array-write-next : tie.Need-array-write-next
 array-write-next c =
-    let lo : 0x5113 ≤ c .before .before .args .addr = from 0x5113 0x5117 _ (sym (c .before .is-within .ensures) ∙ c .if1 .taken) in
-    let hi : c .before .before .args .addr ≤ 0x5117 = upto 0x5113 0x5117 _ (sym (c .before .is-within .ensures) ∙ c .if1 .taken) in
+    let lo : 0x5113 ≤ c .before .before .before .args .addr .0 = from 0x5113 0x5117 _ (sym (c .before .before .is-within .ensures) ∙ c .before .if1 .taken) in
+    let hi : c .before .before .before .args .addr .0 ≤ 0x5117 = upto 0x5113 0x5117 _ (sym (c .before .before .is-within .ensures) ∙ c .before .if1 .taken) in
     omega arith
 
 returns : tie.Need-returns
 unfolding prgBanksAfter
-returns c = rw (← c .before .is-within .ensures, c .if1 .taken)
+returns c = rw (← c .before .before .is-within .ensures, c .before .if1 .taken)
 
 returns-2 : tie.Need-returns-2
 unfolding prgBanksAfter

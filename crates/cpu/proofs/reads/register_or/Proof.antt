@@ -11,35 +11,35 @@ use Rattle.cpu.proofs.reads.register_or.Tie as tie
 
 sub-at : tie.Need-sub-at
 sub-at c =
-    let lo : 0x5113 ≤ c .before .before .args .addr = from 0x5113 0x5117 _ (sym (c .before .is-within .ensures) ∙ c .if1 .taken) in
-    let hi : c .before .before .args .addr ≤ 0x5117 = upto 0x5113 0x5117 _ (sym (c .before .is-within .ensures) ∙ c .if1 .taken) in
+    let lo : 0x5113 ≤ c .before .before .before .args .addr .0 = from 0x5113 0x5117 _ (sym (c .before .before .is-within .ensures) ∙ c .before .if1 .taken) in
+    let hi : c .before .before .before .args .addr .0 ≤ 0x5117 = upto 0x5113 0x5117 _ (sym (c .before .before .is-within .ensures) ∙ c .before .if1 .taken) in
     omega arith
 
-array-read-t16 : tie.Need-array-read-t16
-array-read-t16 c =
-    let lo : 0x5113 ≤ c .before .before .args .addr = from 0x5113 0x5117 _ (sym (c .before .is-within .ensures) ∙ c .if1 .taken) in
-    let hi : c .before .before .args .addr ≤ 0x5117 = upto 0x5113 0x5117 _ (sym (c .before .is-within .ensures) ∙ c .if1 .taken) in
+array-read-t17 : tie.Need-array-read-t17
+array-read-t17 c =
+    let lo : 0x5113 ≤ c .before .before .before .args .addr .0 = from 0x5113 0x5117 _ (sym (c .before .before .is-within .ensures) ∙ c .before .if1 .taken) in
+    let hi : c .before .before .before .args .addr .0 ≤ 0x5117 = upto 0x5113 0x5117 _ (sym (c .before .before .is-within .ensures) ∙ c .before .if1 .taken) in
     omega arith
 
 returns : tie.Need-returns
 unfolding registerRead
-returns c = rw (← c .before .is-within .ensures, c .if1 .taken)
+returns c = rw (← c .before .before .is-within .ensures, c .before .if1 .taken)
 
 sub-at-2 : tie.Need-sub-at-2
 sub-at-2 c =
-    let lo : 0x5120 ≤ c .before .before .before .before .args .addr = from 0x5120 0x512B _ (sym (c .before .is-within2 .ensures) ∙ c .if2 .taken) in
-    let hi : c .before .before .before .before .args .addr ≤ 0x512B = upto 0x5120 0x512B _ (sym (c .before .is-within2 .ensures) ∙ c .if2 .taken) in
+    let lo : 0x5120 ≤ c .before .before .before .before .before .args .addr .0 = from 0x5120 0x512B _ (sym (c .before .before .is-within2 .ensures) ∙ c .before .if2 .taken) in
+    let hi : c .before .before .before .before .before .args .addr .0 ≤ 0x512B = upto 0x5120 0x512B _ (sym (c .before .before .is-within2 .ensures) ∙ c .before .if2 .taken) in
     omega arith
 
-array-read-t21 : tie.Need-array-read-t21
-array-read-t21 c =
-    let lo : 0x5120 ≤ c .before .before .before .before .args .addr = from 0x5120 0x512B _ (sym (c .before .is-within2 .ensures) ∙ c .if2 .taken) in
-    let hi : c .before .before .before .before .args .addr ≤ 0x512B = upto 0x5120 0x512B _ (sym (c .before .is-within2 .ensures) ∙ c .if2 .taken) in
+array-read-t22 : tie.Need-array-read-t22
+array-read-t22 c =
+    let lo : 0x5120 ≤ c .before .before .before .before .before .args .addr .0 = from 0x5120 0x512B _ (sym (c .before .before .is-within2 .ensures) ∙ c .before .if2 .taken) in
+    let hi : c .before .before .before .before .before .args .addr .0 ≤ 0x512B = upto 0x5120 0x512B _ (sym (c .before .before .is-within2 .ensures) ∙ c .before .if2 .taken) in
     omega arith
 
 returns-2 : tie.Need-returns-2
 unfolding registerRead
-returns-2 c = rw (← c .before .before .before .is-within .ensures, c .before .before .if1 .left, ← c .before .is-within2 .ensures, c .if2 .taken)
+returns-2 c = rw (← c .before .before .before .before .is-within .ensures, c .before .before .before .if1 .left, ← c .before .before .is-within2 .ensures, c .before .if2 .taken)
 
 returns-3 : tie.Need-returns-3
 unfolding registerRead
@@ -125,7 +125,7 @@ pub register-or-spec : {M : Type 1} → statement M
 register-or-spec =
     tie.close
     (tie.spec
-    (λ c κs. search needs) sub-at (λ c. search needs) array-read-t16 returns (λ c κs. search needs) sub-at-2 (λ c. search needs)
-    array-read-t21 returns-2 (λ c κs. search needs) (λ c κs. search needs) (λ c. search needs) (λ c κs. search needs) (λ c. search needs)
+    (λ c κs. search needs) sub-at (λ c. search needs) array-read-t17 returns (λ c κs. search needs) sub-at-2 (λ c. search needs)
+    array-read-t22 returns-2 (λ c κs. search needs) (λ c κs. search needs) (λ c. search needs) (λ c κs. search needs) (λ c. search needs)
     returns-3 returns-4 returns-5 returns-6 returns-7 returns-8 returns-9 returns-10 returns-11 returns-12 returns-13 returns-14 returns-15
     returns-16 returns-17)

@@ -4,7 +4,7 @@ use Rattle.cpu.proofs.writes.audio_write.Statement.{statement}
 use Rattle.cpu.proofs.writes.audio_write.Tie as tie
 
 returns : tie.Need-returns
-returns c = rw (c .is-within3 .ensures, c .before .is-within2 .ensures, c .before .before .is-within .ensures)
+returns c = rw (c .before .is-within3 .ensures, c .before .before .is-within2 .ensures, c .before .before .before .is-within .ensures)
 
 pub audio-write-spec : {M : Type 1} → statement M
 audio-write-spec =

@@ -8,19 +8,19 @@ use Rattle.cpu.proofs.writes.latch.Statement.{statement}
 use Rattle.cpu.proofs.writes.latch.Tie as tie
 
 sub-at : tie.Need-sub-at
-sub-at c = from 0x5C00 0x5FFF _ (sym (c .before .is-within .ensures) ∙ and-left _ _ (c .if1 .taken))
+sub-at c = from 0x5C00 0x5FFF _ (sym (c .before .before .is-within .ensures) ∙ and-left _ _ (c .before .if1 .taken))
 
 returns : tie.Need-returns
 unfolding latched
 returns c =
     let at-if2 = c .before .before .before .before in
-    rw (← at-if2 .before .before .is-within .ensures, at-if2 .before .if1 .taken, at-if2 .if2 .taken) (c .before .before .put .ensures)
+    rw (← at-if2 .before .before .before .is-within .ensures, at-if2 .before .before .if1 .taken, at-if2 .if2 .taken) (c .before .before .put .ensures)
 
 returns-2 : tie.Need-returns-2
 unfolding latched
 returns-2 c =
     let at-if2 = c .before .before .before .before in
-    rw (← at-if2 .before .before .is-within .ensures, at-if2 .before .if1 .taken, at-if2 .if2 .left) (c .before .before .put2 .ensures)
+    rw (← at-if2 .before .before .before .is-within .ensures, at-if2 .before .before .if1 .taken, at-if2 .if2 .left) (c .before .before .put2 .ensures)
 
 returns-3 : tie.Need-returns-3
 unfolding latched

@@ -12,7 +12,7 @@ returns c =
     let at-banks = at-write .before .before .before .before .before in
     let at-detector = at-banks .before .before .before .before .before .before in
     let start = at-detector .before .before .before .before .before .before .before .before .before .before in
-    other-words (start .args .words .now) (start .args .addr) (start .args .val) (at-detector .before .before .before .before .before .before .before .before .sized .ensures) (start .pre .0)
+    other-words (start .args .words .now) (start .args .addr .0) (start .args .val) (at-detector .before .before .before .before .before .before .before .before .sized .ensures) (start .pre .0)
     _ _ _ _ _ _ _ _ _ _ _ _ _ _ _ _ _ _ (start .pre .1)
     (at-detector .before .before .before .before .before .before .lengths-of .ensures) (at-detector .before .before .before .before .regs-of .ensures) (at-detector .before .before .split-of .ensures) (at-detector .detector-of .ensures)
     (at-banks .before .before .before .before .status-of .ensures) (at-banks .before .before .mirroring-of .ensures) (at-banks .chr-banks-of .ensures) (at-write .before .before .before .chr-table .ensures) (at-write .before .prg-word .ensures)

@@ -17,7 +17,7 @@ returns c =
     let at-write = c .before .before .before .before .before .before .before .before .before in
     let at-lengths = at-write .before .before .before .before .before .before .before in
     let start = at-lengths .before .before .before .before in
-    prg-words (start .args .words .now) (start .args .addr) (start .args .val) (at-lengths .before .before .sized .ensures) (start .pre .0)
+    prg-words (start .args .words .now) (start .args .addr .0) (start .args .val) (at-lengths .before .before .sized .ensures) (start .pre .0)
     _ _ _ _ _ _ _ _ (start .pre .1)
     (at-lengths .lengths-of .ensures) (at-write .before .before .before .before .before .regs-of .ensures)
     (at-write .before .before .before .prg-banks-of .ensures) (at-write .before .prg-table .ensures)

@@ -9,7 +9,7 @@ use Rattle.host_state.proofs.tables.prg_word.Statement.{statement}
 use Rattle.host_state.proofs.tables.prg_word.Tie as tie
 
 returns : tie.Need-returns
-returns c = ap word (sym (part-at (c .before .args .words .now) 64 64 _ (search needs))) ∙ sym (List·getD-map word (prgNumbers (c .before .args .words .now)) _ 0)
+returns c = ap word (sym (part-at (c .before .before .args .words .now) 64 64 _ (search needs))) ∙ sym (List·getD-map word (prgNumbers (c .before .before .args .words .now)) _ 0)
 
 pub prg-word-spec : {M : Type 1} → statement M
 prg-word-spec = tie.close (tie.spec (λ c. search needs) (λ c. search needs) (λ c. search needs) (λ c. search needs) returns)

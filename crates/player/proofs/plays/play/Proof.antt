@@ -8,6 +8,7 @@ use borrow.Author.Needs.{needs}
 use borrow.Author.Tests.{not-true}
 use lib.ListN.{length}
 use Rattle.memory.specs.Bytes.{Mem, memOf}
+use Rattle.memory.proofs.ByteLaws.{stored-low}
 use Rattle.scanline.proofs.RangeLaws.{ranges-kept}
 use Rattle.state.specs.With.{withChrPages}
 use Rattle.state.proofs.SizeLaws.{lengths-say}
@@ -62,7 +63,7 @@ loop-again c =
 
 -- A CPU read; past the test for the audio registers.
 abbrev read-tested : tie.After-log-record-arg2 Inv-loop μ-loop → tie.Else1 Inv-loop μ-loop
-read-tested c = c .before .before .before .before .before .before .before .before .before .before .before .before .before .before
+read-tested c = c .before .before .before .before .before .before .before .before .before .before .before .before .before .before .before
 
 abbrev read-found : tie.After-slice-known7 Inv-loop μ-loop → Found
 read-found c = read-tested (c .before .before .before) .before .before .before .before .before
@@ -82,7 +83,7 @@ returns-3 c =
 
 -- A CPU write: past the test for the audio registers, past the bytes, and past the registers.
 abbrev write-tested : tie.After-store Inv-loop μ-loop → tie.Else2 Inv-loop μ-loop
-write-tested c = c .before .before .before .before .before .before
+write-tested c = c .before .before .before .before .before .before .before
 
 abbrev stored : tie.After-is-within Inv-loop μ-loop → tie.After-store Inv-loop μ-loop
 stored c = c .before .before .before .before .before .before .before .before .before
@@ -173,20 +174,20 @@ returns-5 c =
 
 count-fetch-requires : tie.Need-count-fetch-requires Inv-loop μ-loop
 count-fetch-requires c κs =
-    let e = c .before .before .before .before .before .before in let k = going-ranged (going (fetch-found e)) in (k .detector, k .tiles)
+    let e = c .before .before .before .before .before .before .before in let k = going-ranged (going (fetch-found e)) in (k .detector, k .tiles)
 
 abbrev counted : tie.After-log-record-arg9 Inv-loop μ-loop → tie.Then6 Inv-loop μ-loop
 counted c = c .before .before .before .before .before .before .before .before .before .before .before .before .before .before .before .before
 
 abbrev counted-found : tie.After-slice-known16 Inv-loop μ-loop → Found
-counted-found c = fetch-found (counted (c .before .before .before) .before .before)
+counted-found c = fetch-found (counted (c .before .before .before) .before .before .before)
 
 loop-again-7 : tie.Need-loop-again-7 Inv-loop μ-loop
 unfolding chrAnswer
 loop-again-7 c =
     let w = c .before .before .log-record7 in let a = c .before .before .before .before .counted-answer in
     let n = c .before .before .before .before .before .before .before .before .before .before .before .before .before .before .count-fetch in
-    let t = counted (c .before .before .before) in let e = t .before .before in let r = fetch-found e in
+    let t = counted (c .before .before .before) in let e = t .before .before .before in let r = fetch-found e in
     counted-arm (going r) (stands r) (n .result .irq) (n .result .ppu) (n .result .vsplit) (a .result) (e .before .before .before .before .call4 .given .1)
     (sym (e .before .counter-refused .ensures) ∙ e .if5 .left) (sym (t .before .counted .ensures) ∙ t .if6 .taken)
     (n .ensures .0) (n .ensures .1 .0) (n .ensures .1 .1) (a .ensures) (w .last .0) (w .ensures)
@@ -196,7 +197,7 @@ abbrev set-shown : tie.After-log-record-arg11 Inv-loop μ-loop → tie.Joined7 I
 set-shown c = c .before .before .before .before .before .before .before .before .before .before .before
 
 abbrev other-found : tie.Joined7 Inv-loop μ-loop → Found
-other-found j = fetch-found (j .before .before .before .before .before .before)
+other-found j = fetch-found (j .before .before .before .before .before .before .before)
 
 shown : (j : tie.Joined7 Inv-loop μ-loop) →
     let s = head (other-found j) .loop .t in j .if7 .t ≡ withChrPages s (patternPages s (j .before .before .chosen-at .result .«bg_set»))
@@ -212,7 +213,7 @@ unfolding chrAnswer
 loop-again-8 c =
     let w = c .before .before .log-record8 in let a = c .before .before .before .before .before .other-answer in
     let j = set-shown (c .before .before .before) in let p = j .before .before .chosen-at in
-    let t = j .before .before .before .before in let e = t .before .before in let r = other-found j in
+    let t = j .before .before .before .before in let e = t .before .before .before in let r = other-found j in
     other-arm (going r) (stands r) (p .result) (j .if7 .t) (a .result) (e .before .before .before .before .call4 .given .1)
     (sym (e .before .counter-refused .ensures) ∙ e .if5 .left) (sym (t .before .counted .ensures) ∙ t .if6 .left)
     (p .ensures) (shown j) (a .ensures) (w .last .0) (w .ensures)
@@ -228,13 +229,13 @@ abbrev poked : tie.After-log-record-arg15 Inv-loop μ-loop → tie.After-store2 
 poked c = c .before .before .before .before .before .before .before .before .before .before
 
 abbrev poke-found : tie.After-slice-known23 Inv-loop μ-loop → Found
-poke-found c = poked (c .before .before .before) .before .before .before .before .before .before .before .before .before
+poke-found c = poked (c .before .before .before) .before .before .before .before .before .before .before .before .before .before .before
 
 loop-again-10 : tie.Need-loop-again-10 Inv-loop μ-loop
 loop-again-10 c =
     let w = c .before .before .log-record10 in let d = poked (c .before .before .before) in let l = d .store2 .last in let r = poke-found c in
     ppu-write-arm (going r) (stands r) (memOf (start r .args .prg .now) (l .0) (l .1 .0) (l .1 .1 .0) (l .1 .1 .1 .0))
-    (d .before .before .before .before .before .before .before .call5 .given .1) (d .store2 .ensures _) (w .last .0) (w .ensures)
+    (d .before .before .before .before .before .before .before .before .before .call5 .given .1) (d .store2 .ensures _ ∙ stored-low _ _ _ _) (w .last .0) (w .ensures)
 
 -- The trace's end, and a record that cannot be read.
 returns : tie.Need-returns Inv-loop μ-loop
@@ -268,7 +269,7 @@ play-spec =
     (λ c. one-more (going (c .before .before .before .before .before .before .before .before .before .before .before)))
     (λ c. nearer _ _ _ _ (stands (c .before .before .before .before .before .before .before .before .before .before .before))) loop-again-6
     (λ c. search needs) (λ c κs. search needs) (λ c. search needs) (λ c κs. search needs) count-fetch-requires (λ c. search needs) (λ c. search needs)
-    (λ c κs. search needs) (λ c κs. few (going (fetch-found (counted c .before .before)))) (λ c. one-more (going (counted-found c)))
+    (λ c κs. search needs) (λ c κs. few (going (fetch-found (counted c .before .before .before)))) (λ c. one-more (going (counted-found c)))
     (λ c. nearer _ _ _ _ (stands (counted-found c))) loop-again-7
     (λ c κs. search needs) (λ c κs. search needs) (λ c κs. search needs) (λ c. search needs) (λ c. search needs) (λ c κs. search needs)
     (λ c κs. few (going (other-found (set-shown c)))) (λ c. one-more (going (other-found (set-shown (c .before .before .before)))))
@@ -277,7 +278,7 @@ play-spec =
     (λ c. one-more (going (c .before .before .before .before .before .before .before .before .before)))
     (λ c. nearer _ _ _ _ (stands (c .before .before .before .before .before .before .before .before .before))) loop-again-9
     (λ c. search needs) (λ c. search needs) (λ c. search needs) (λ c. search needs) (λ c κs. search needs)
-    (λ c κs. few (going (poked c .before .before .before .before .before .before .before .before .before))) (λ c. one-more (going (poke-found c)))
+    (λ c κs. few (going (poked c .before .before .before .before .before .before .before .before .before .before .before))) (λ c. one-more (going (poke-found c)))
     (λ c. nearer _ _ _ _ (stands (poke-found c))) loop-again-10
     (λ c. c .before .before .before .loop .inv .sizes .chr) (λ c. c .before .before .before .loop .inv .sizes .ram)
     (λ c. c .before .before .before .loop .inv .sizes .ciram) (λ c. c .before .before .before .loop .inv .sizes .exram)

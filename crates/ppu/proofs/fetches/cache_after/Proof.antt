@@ -8,10 +8,10 @@ returns : tie.Need-returns
 unfolding cacheAfter
 returns c =
     rw (
-      ← c .before .before .before .attribute-use .ensures,
-      ← c .before .before .attribute-address .ensures,
-      ← c .before .sprite-fetch .ensures,
-      c .if1 .taken,
+      ← c .before .before .before .before .attribute-use .ensures,
+      ← c .before .before .before .attribute-address .ensures,
+      ← c .before .before .sprite-fetch .ensures,
+      c .before .if1 .taken,
     )
 
 returns-2 : tie.Need-returns-2

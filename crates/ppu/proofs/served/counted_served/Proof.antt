@@ -36,7 +36,7 @@ returns-2 c =
 returns-3 : tie.Need-returns-3
 unfolding countedServed
 returns-3 c =
-    let at-attribute-use = c .before .before .before .before in
+    let at-attribute-use = c .before .before .before .before .before in
     let at-active = at-attribute-use .before .before .before .before in
     rw (
       ← at-active .before .before .nametable-use .ensures,
@@ -45,7 +45,7 @@ returns-3 c =
       ← at-attribute-use .attribute-use .ensures,
       ← at-active .before .attribute-address .ensures,
       ← at-attribute-use .before .sprite-fetch .ensures,
-      c .before .before .before .if2 .left,
+      c .before .before .before .before .if2 .left,
       ← c .before .before .selector-of .ensures,
       c .before .if3 .taken,
       c .fill-byte .ensures,
@@ -54,16 +54,16 @@ returns-3 c =
 returns-4 : tie.Need-returns-4
 unfolding countedServed
 returns-4 c =
-    let at-sprite-fetch = c .before .before .before .before in
+    let at-sprite-fetch = c .before .before .before .before .before in
     let at-attribute-address = at-sprite-fetch .before .before .before .before in
     rw (
       ← at-attribute-address .before .nametable-use .ensures,
       ← at-sprite-fetch .before .before .before .active .ensures,
       at-sprite-fetch .before .if1 .left,
-      ← c .before .before .before .attribute-use .ensures,
+      ← c .before .before .before .before .attribute-use .ensures,
       ← at-attribute-address .attribute-address .ensures,
       ← at-sprite-fetch .sprite-fetch .ensures,
-      c .before .before .if2 .left,
+      c .before .before .before .if2 .left,
       ← c .before .selector-of .ensures,
       c .if3 .left,
     )

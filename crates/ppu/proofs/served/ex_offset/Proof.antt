@@ -7,7 +7,7 @@ use Rattle.ppu.proofs.served.ex_offset.Tie as tie
 
 returns : tie.Need-returns
 unfolding exOffset
-returns c = rw (and-mask (c .args .byte) 6, and-mask (c .args .addr) 12)
+returns c = rw (and-mask (c .before .args .byte) 6, and-mask (c .before .args .addr .0) 12)
 
 pub ex-offset-spec : {M : Type 1} → statement M
 ex-offset-spec = tie.close (tie.spec (λ c. search needs) (λ c. search needs) (λ c. search needs) (λ c. search needs) returns)

@@ -6,7 +6,7 @@ use Rattle.ppu.proofs.served.sprite_byte.Tie as tie
 
 returns : tie.Need-returns
 unfolding spriteByte
-returns c = rw (c .direct-byte .ensures, c .before .chr-number .ensures)
+returns c = rw (c .direct-byte .ensures, c .before .before .chr-number .ensures)
 
 pub sprite-byte-spec : {M : Type 1} → statement M
 sprite-byte-spec =

@@ -6,7 +6,7 @@ use Rattle.split.proofs.places.pattern_offset.Statement.{statement}
 use Rattle.split.proofs.places.pattern_offset.Tie as tie
 
 returns : tie.Need-returns
-returns c = sym (pattern-digits (c .args .bank) (c .args .addr) (c .args .scroll))
+returns c = sym (pattern-digits (c .before .args .bank) (c .before .args .addr .0) (c .before .args .scroll))
 
 pub pattern-offset-spec : {M : Type 1} → statement M
-pattern-offset-spec = tie.close (tie.spec (λ c. search needs) (λ c. search needs) (λ c. search needs) (λ c. search needs) returns)
+pattern-offset-spec = tie.close (tie.spec (λ c. search needs) (λ c. search needs) (λ c. search needs) (λ c. search needs) (λ c. search needs) returns)
