@@ -1,5 +1,5 @@
-/* The board for a host in C: the functions of target/staticlib/libhost.a (`rt staticlib host`), those that change nothing of libhost_looks.a
- * (`rt staticlib host_looks`), and `mmc5_replay` of libhost_replay.a (`rt staticlib host_replay`); a program links those that it calls. docs/HOST.md says what each number means and what the host must keep. The functions allocate nothing, keep nothing and trust nothing beyond each pointer and its length: an array has
+/* The board for a host in C: the functions of target/staticlib/libmmc5.a, which `host/build` makes. docs/HOST.md says what each number means and what
+ * the host must keep. The functions allocate nothing, keep nothing and trust nothing beyond each pointer and its length: an array has
  * the length that stands in its brackets, a buffer the length given after it, and a pointer is never null, at length 0 too. No two lent
  * arrays or buffers overlap where one of them is written. */
 #ifndef MMC5_H

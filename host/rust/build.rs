@@ -1,4 +1,4 @@
-//! Says where the three static libraries lie: `MMC5_LIB`, or target/staticlib of the repository.
+//! Says where the static library lies: `MMC5_LIB`, or target/staticlib of the repository.
 
 use std::{env, path::PathBuf};
 
@@ -8,8 +8,6 @@ fn main() {
     let folder = env::var("MMC5_LIB").map_or(default, PathBuf::from);
     println!("cargo:rerun-if-env-changed=MMC5_LIB");
     println!("cargo:rustc-link-search=native={}", folder.display());
-    for name in ["host", "host_looks", "host_replay"] {
-        println!("cargo:rerun-if-changed={}", folder.join(format!("lib{name}.a")).display());
-        println!("cargo:rustc-link-lib=static={name}");
-    }
+    println!("cargo:rerun-if-changed={}", folder.join("libmmc5.a").display());
+    println!("cargo:rustc-link-lib=static=mmc5");
 }
