@@ -9,10 +9,11 @@ use native.Mathlib.Numerals.{add-one}
 use lib.Dec.{eqb}
 use lib.ListN.{getD, set}
 use Rattle.memory.specs.declared.PageWord.{PageWord}
-use Rattle.memory.specs.Words.{pick, word}
+use Rattle.memory.specs.Tests.{pick}
+use Rattle.memory.specs.PageWords.{word}
 use Rattle.memory.proofs.Tests.{split}
 use Rattle.banks.specs.Placed.{placed}
-use Rattle.banks.specs.Prg.{prgShown, windowsMapped}
+use Rattle.banks.specs.Prg.{prgValuePages, windowsMapped}
 use Rattle.banks.specs.Chr.{windowPages, windowRegister, background}
 
 -- Eight entries from a place on, one after the other.
@@ -31,7 +32,7 @@ eight m at w =
 
 -- One window more.
 pub windows-next : (prg ram : ℕ) (free : Bool) (values : List ℕ) (pages m : List PageWord) (i : ℕ) (w : List PageWord)
-    → m ≡ windowsMapped prg ram free values pages i → w ≡ prgShown prg ram free (getD values i 0)
+    → m ≡ windowsMapped prg ram free values pages i → w ≡ prgValuePages prg ram free (getD values i 0)
     → eight m (24 + 8 * i) w ≡ windowsMapped prg ram free values pages (i + 1)
 unfolding windowsMapped placed
 windows-next prg ram free values pages m i w e h = rw (add-one i, add-zero, e, h)

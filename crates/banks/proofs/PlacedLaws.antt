@@ -10,7 +10,7 @@ use borrow.Author.Tests.{eqb-true, eqb-false}
 use lib.Dec.{eqb}
 use lib.ListN.{length, getD, set, length-set}
 use lib.Seq.{getD-set-same, getD-set-other}
-use Rattle.memory.specs.Tables.{all}
+use Rattle.memory.specs.Tests.{all}
 use Rattle.memory.proofs.Tests.{split, and-left, and-right, and-both}
 use Rattle.banks.specs.Placed.{placed}
 

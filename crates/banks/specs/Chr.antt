@@ -8,7 +8,7 @@ use lib.ListN.{getD}
 use Rattle.memory.specs.Bits.{_OR_}
 use Rattle.memory.specs.declared.PageWord.{PageWord}
 use Rattle.memory.specs.declared.Src.the-variants.{Chr}
-use Rattle.memory.specs.Words.{pick}
+use Rattle.memory.specs.Tests.{pick}
 use Rattle.memory.specs.Windows.{chrWindow}
 use Rattle.registers.specs.declared.Regs.{Regs}
 use Rattle.banks.specs.Placed.{placed}

@@ -5,7 +5,8 @@ use mathlib.Core.List.{List}
 use lib.Dec.{eqb}
 use Rattle.memory.specs.declared.PageWord.{PageWord}
 use Rattle.memory.specs.declared.Src.the-variants.{CiRam, ExRam}
-use Rattle.memory.specs.Words.{pick, page, blank, wordOf}
+use Rattle.memory.specs.Tests.{pick}
+use Rattle.memory.specs.PageWords.{page, blank, wordOf}
 use Rattle.banks.specs.Placed.{placed}
 
 -- "four selectors of two bits": number i mod 4, from the lowest bits on.

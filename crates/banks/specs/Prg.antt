@@ -8,7 +8,8 @@ use lib.Dec.{eqb, leb, ltb}
 use lib.ListN.{getD}
 use Rattle.memory.specs.declared.PageWord.{PageWord}
 use Rattle.memory.specs.declared.Src.the-variants.{PrgRom, PrgRam, ExRam}
-use Rattle.memory.specs.Words.{pick, word, page, blank, wordOf}
+use Rattle.memory.specs.Tests.{pick}
+use Rattle.memory.specs.PageWords.{word, page, blank, wordOf}
 use Rattle.memory.specs.Windows.{prgWindow}
 use Rattle.registers.specs.declared.Regs.{Regs}
 use Rattle.registers.specs.Registers.{unlocked}
@@ -47,14 +48,14 @@ abbrev pub ramBank : ℕ → ℕ
 ramBank v = v % 8
 
 -- "bit 7 set means ROM with seven bits": the eight pages of a window that shows a value; RAM is writable where it is unlocked.
-unfoldable pub prgShown : ℕ → ℕ → Bool → ℕ → List PageWord
-prgShown prg ram free v = pick (leb 128 v) (prgWindow PrgRom prg (v % 128) false) (prgWindow PrgRam ram (ramBank v) free)
+unfoldable pub prgValuePages : ℕ → ℕ → Bool → ℕ → List PageWord
+prgValuePages prg ram free v = pick (leb 128 v) (prgWindow PrgRom prg (v % 128) false) (prgWindow PrgRam ram (ramBank v) free)
 
 -- The table with the first n of the windows mapped, each by the value that it shows; the first starts at $6000, page 24.
 unfoldable pub windowsMapped : ℕ → ℕ → Bool → List ℕ → List PageWord → ℕ → List PageWord
 windowsMapped prg ram free values pages zero = pages
 windowsMapped prg ram free values pages (suc n) =
-    placed (windowsMapped prg ram free values pages n) (24 + 8 * n) (λ (k : ℕ). getD (prgShown prg ram free (getD values n 0)) k (word 0)) 8
+    placed (windowsMapped prg ram free values pages n) (24 + 8 * n) (λ (k : ℕ). getD (prgValuePages prg ram free (getD values n 0)) k (word 0)) 8
 
 -- The table with the five windows mapped.
 abbrev pub prgMapped : ℕ → ℕ → Regs → List ℕ → List PageWord → List PageWord

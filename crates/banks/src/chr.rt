@@ -2,7 +2,7 @@
 ghost use mathlib.Core.Path.{_≡_};
 ghost use Prim.Native.Nat.{_%_, _<_};
 ghost use lib.Bits.{bitOr};
-ghost use Rattle.memory.specs.Words.{pick};
+ghost use Rattle.memory.specs.Tests.{pick};
 ghost use Rattle.banks.specs.Chr.{windowPages, windowRegister, chrNumber, chrMapped, background};
 use memory::PageWord;
 use memory::Src;

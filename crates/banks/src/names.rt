@@ -22,11 +22,11 @@ fn name_page(selector: u8, nametable_use: bool) -> PageWord
     ensures { λ r. ⌜ r ≡ namePage selector «nametable_use» ⌝ }
 {
     match selector {
-        0 => memory::words::word_of(Src::CiRam, 0, true),
-        1 => memory::words::word_of(Src::CiRam, 1, true),
+        0 => memory::page_words::word_of(Src::CiRam, 0, true),
+        1 => memory::page_words::word_of(Src::CiRam, 1, true),
         2 => {
             if nametable_use {
-                memory::words::word_of(Src::ExRam, 0, true)
+                memory::page_words::word_of(Src::ExRam, 0, true)
             } else {
                 PageWord(0)
             }

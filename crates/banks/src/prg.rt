@@ -1,7 +1,7 @@
 // PRG banks: the five windows from $6000 on, and ExRAM's page at $5C00.
 ghost use mathlib.Core.Path.{_≡_};
 ghost use Prim.Native.Nat.{_%_, _<_};
-ghost use Rattle.banks.specs.Prg.{pairFirst, rom, prgValues, prgShown, prgMapped, exramPage};
+ghost use Rattle.banks.specs.Prg.{pairFirst, rom, prgValues, prgValuePages, prgMapped, exramPage};
 use memory::PageWord;
 use memory::Src;
 use registers::Regs;
@@ -54,9 +54,9 @@ fn values(mode: u8, banks: [u8; 5]) -> [u8; 5]
 }
 
 // The eight pages that a value shows.
-fn shown(prg_len: u32, ram_len: u32, unlocked: bool, value: u8) -> [PageWord; 8]
+fn value_pages(prg_len: u32, ram_len: u32, unlocked: bool, value: u8) -> [PageWord; 8]
     requires { ⌜ («prg_len» % 1024 ≡ 0) × («ram_len» % 1024 ≡ 0) ⌝ }
-    ensures { λ r. ⌜ r ≡ prgShown «prg_len» «ram_len» unlocked value ⌝ }
+    ensures { λ r. ⌜ r ≡ prgValuePages «prg_len» «ram_len» unlocked value ⌝ }
 {
     if value >= 128 {
         memory::windows::prg_window(Src::PrgRom, prg_len, (value % 128) as u32, false)
@@ -82,7 +82,7 @@ pub fn map_prg(
     let mut i: usize = 0;
     while i < 5 {
         let value = shows[i];
-        let words = shown(lengths.prg, lengths.ram, unlocked, value);
+        let words = value_pages(lengths.prg, lengths.ram, unlocked, value);
         let at = 24 + 8 * i;
         next[at] = words[0];
         next[at + 1] = words[1];
@@ -104,5 +104,5 @@ pub fn exram_page(mode: u8) -> PageWord
     if mode < 2 {
         return PageWord(0);
     }
-    memory::words::word_of(Src::ExRam, 0, mode == 2)
+    memory::page_words::word_of(Src::ExRam, 0, mode == 2)
 }

@@ -1,4 +1,4 @@
 pub mod Outcomes
 pub mod Loads
 pub mod CpuSide
-pub mod Whole
+pub mod StateCalls

@@ -1,6 +1,6 @@
 // The clock, on the state alone.
 ghost use mathlib.Core.Path.{_≡_};
-ghost use Rattle.board.specs.Whole.{clockCall};
+ghost use Rattle.board.specs.StateCalls.{clockCall};
 use crate::Outcome;
 use crate::refuse;
 use answers::Answer;

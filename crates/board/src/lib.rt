@@ -11,7 +11,7 @@ pub mod clocks;
 pub mod cpu_side;
 pub mod loads;
 pub mod ppu_registers;
-pub mod whole;
+pub mod state_calls;
 
 // What a call gives back: its answer and the state after it.
 pub struct Outcome {
@@ -20,7 +20,7 @@ pub struct Outcome {
 }
 
 // What `mirroring` tells.
-pub enum Told {
+pub enum MirroringAnswer {
     Is(Mirroring),
     Refused(Refusal),
 }

@@ -1,6 +1,6 @@
 // PPU register writes, on the state alone.
 ghost use mathlib.Core.Path.{_≡_};
-ghost use Rattle.board.specs.Whole.{ppuRegisterCall};
+ghost use Rattle.board.specs.StateCalls.{ppuRegisterCall};
 use crate::Outcome;
 use crate::refuse;
 use answers::Answer;

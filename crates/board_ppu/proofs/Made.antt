@@ -6,7 +6,8 @@ use mathlib.Core.Path.{_≡_, refl, sym, _∙_}
 use lib.Dec.{ltb}
 use Rattle.memory.specs.declared.PageWord.{PageWord}
 use Rattle.memory.specs.Bytes.{Mem, memOf, pageStored}
-use Rattle.memory.specs.Words.{pick, pageOf}
+use Rattle.memory.specs.Tests.{pick}
+use Rattle.memory.specs.PageWords.{pageOf}
 use Rattle.memory.proofs.Tests.{split}
 use Rattle.answers.specs.declared.Answer.the-variants.{Nothing}
 use Rattle.answers.specs.declared.Refusal.the-variants.{Audio, Counter}
@@ -26,7 +27,7 @@ use Rattle.ppu.specs.Served.{countedServed, patternServed}
 use Rattle.board.specs.CpuSide.{cpuRead, cpuWrite}
 use Rattle.board.specs.Outcomes.{outcome, refused, afterOf}
 use Rattle.registers.specs.Registers.{resetRegs}
-use Rattle.board.specs.Whole.{ppuRegisterWritten, resetCall, clockCall, ppuRegisterCall}
+use Rattle.board.specs.StateCalls.{ppuRegisterWritten, resetCall, clockCall, ppuRegisterCall}
 use Rattle.board_ppu.specs.Fetch.{countedIrq, countedPpu, countedSplit, countedState, countedCall, patternPages, patternCall, ppuFetch}
 use Rattle.board_ppu.specs.Peeks.{chrWordAt, chrAnswer, ppuWrite}
 use Rattle.steps.specs.Sides.{chosenAt}

@@ -12,7 +12,7 @@ use lib.ListN.{length, getD}
 use Rattle.memory.specs.declared.Src.the-variants.{Chr}
 use Rattle.memory.specs.Bytes.{Mem, offsetOf, byteAt, pageByte}
 use Rattle.memory.specs.Windows.{pageStart, windowPage, chrWindow}
-use Rattle.memory.specs.Words.{word, page, blank, namedAs, wordOf, pageOf}
+use Rattle.memory.specs.PageWords.{word, page, blank, namedAs, wordOf, pageOf}
 use Rattle.memory.proofs.Tests.{split}
 use Rattle.memory.proofs.WindowLaws.{one-page-window, shown-page}
 use Rattle.memory.proofs.WordLaws.{making-is-undone}

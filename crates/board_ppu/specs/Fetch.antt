@@ -5,7 +5,7 @@ use mathlib.Core.List.{List}
 use lib.Dec.{ltb}
 use Rattle.memory.specs.declared.PageWord.{PageWord}
 use Rattle.memory.specs.Bytes.{Mem}
-use Rattle.memory.specs.Words.{pick}
+use Rattle.memory.specs.Tests.{pick}
 use Rattle.answers.specs.declared.Refusal.the-variants.{Counter}
 use Rattle.banks.specs.Chr.{chrMapped}
 use Rattle.cpu.specs.Chosen.{chosen, setChanged}

@@ -6,7 +6,8 @@ use lib.Dec.{leb, ltb}
 use lib.ListN.{getD}
 use Rattle.memory.specs.declared.PageWord.{PageWord}
 use Rattle.memory.specs.Bytes.{Mem, pageStored}
-use Rattle.memory.specs.Words.{pick, word, pageOf}
+use Rattle.memory.specs.Tests.{pick}
+use Rattle.memory.specs.PageWords.{word, pageOf}
 use Rattle.answers.specs.declared.Answer.{Answer}
 use Rattle.answers.specs.declared.Answer.the-variants.{Nothing, Served, Refused}
 use Rattle.answers.specs.declared.Refusal.{Refusal}

@@ -8,7 +8,7 @@ use mathlib.Core.Path.{_≡_}
 use lib.ListN.{length}
 use Rattle.memory.specs.declared.PageWord.{PageWord}
 use Rattle.memory.specs.Bytes.{Mem, pageByte}
-use Rattle.memory.specs.Words.{pageOf}
+use Rattle.memory.specs.PageWords.{pageOf}
 use Rattle.registers.specs.declared.Regs.{Regs}
 use Rattle.banks.specs.Chr.{chrMapped}
 use Rattle.ppu.specs.Served.{spriteByte}

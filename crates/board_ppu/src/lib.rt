@@ -2,7 +2,7 @@
 // anything: the gate (refusals 4 and 5), then its own refusals, then the call.
 ghost use Rattle.board_ppu.specs.Promise.{SpriteSetMapped};
 
-pub mod calls;
+pub mod fetches;
 pub mod pages;
 pub mod peeks;
 pub mod stores;

@@ -5,7 +5,7 @@ use Rattle.state.specs.Gate.{gateMem}
 use Rattle.board.specs.declared.Outcome.{Outcome}
 use Rattle.board.specs.CpuSide.{cpuRead, cpuWrite}
 use Rattle.board.specs.Outcomes.{After, afterOf, refused, behind}
-use Rattle.board.specs.Whole.{resetCall, clockCall, ppuRegisterCall}
+use Rattle.board.specs.StateCalls.{resetCall, clockCall, ppuRegisterCall}
 use Rattle.board_ppu.specs.Fetch.{ppuFetch}
 use Rattle.board_ppu.specs.Peeks.{ppuWrite}
 use Rattle.trace.specs.declared.Call.{Call}

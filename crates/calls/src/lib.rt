@@ -61,9 +61,9 @@ pub fn call_on(
             let given = board::ppu_registers::ppu_register(s, addr, val);
             over_lent(s, given, prg, chr, ram, ciram, exram)
         }
-        Call::PpuFetch(addr) => board_ppu::calls::ppu_fetch(s, prg, chr, ram, ciram, exram, addr),
+        Call::PpuFetch(addr) => board_ppu::fetches::ppu_fetch(s, prg, chr, ram, ciram, exram, addr),
         Call::Reset => {
-            let given = board::whole::reset(s);
+            let given = board::state_calls::reset(s);
             over_lent(s, given, prg, chr, ram, ciram, exram)
         }
         Call::PpuWrite(addr, val) => board_ppu::stores::ppu_write(

@@ -2,7 +2,7 @@
 use Prim.Native.Nat.{ℕ}
 use mathlib.Core.Bool.{Bool, true, false, _&&_, _||_, not}
 use lib.Dec.{eqb}
-use Rattle.memory.specs.Words.{pick}
+use Rattle.memory.specs.Tests.{pick}
 use Rattle.scanline.specs.Tiles.{spriteFetch}
 use Rattle.banks.specs.Chr.{background}
 use Rattle.state.specs.declared.PpuStatus.{PpuStatus}

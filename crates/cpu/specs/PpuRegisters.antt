@@ -3,7 +3,7 @@ use Prim.Native.Nat.{ℕ}
 use mathlib.Core.Bool.{not, _&&_}
 use lib.Dec.{eqb}
 use Rattle.memory.specs.Bits.{bitSet}
-use Rattle.memory.specs.Words.{pick}
+use Rattle.memory.specs.Tests.{pick}
 use Rattle.scanline.specs.declared.Detector.{Detector}
 use Rattle.scanline.specs.Steps.{dark, broken}
 use Rattle.state.specs.declared.PpuStatus.{PpuStatus}

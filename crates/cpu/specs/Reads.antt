@@ -9,7 +9,8 @@ use Rattle.memory.specs.declared.Src.{Src}
 use Rattle.memory.specs.declared.Src.the-variants.{PrgRom, PrgRam, Chr, CiRam, ExRam}
 use Rattle.memory.specs.declared.Src.the-variants as src
 use Rattle.memory.specs.Bytes.{Mem, pageByte}
-use Rattle.memory.specs.Words.{pick, pageOf}
+use Rattle.memory.specs.Tests.{pick}
+use Rattle.memory.specs.PageWords.{pageOf}
 use Rattle.answers.specs.declared.Answer.{Answer}
 use Rattle.answers.specs.declared.Answer.the-variants.{Register, Page as FromPage, Blank}
 use Rattle.registers.specs.declared.Regs.{Regs}
@@ -21,16 +22,16 @@ use Rattle.cpu.specs.Groups.{within}
 use Rattle.cpu.specs.Writes.{prgWordAt}
 
 -- A blank page answers blank, any other its byte.
-abbrev pub shownAs : Src → ℕ → Answer
-shownAs src.Blank v = Blank
-shownAs PrgRom v = FromPage v
-shownAs PrgRam v = FromPage v
-shownAs Chr v = FromPage v
-shownAs CiRam v = FromPage v
-shownAs ExRam v = FromPage v
+abbrev pub answeredAs : Src → ℕ → Answer
+answeredAs src.Blank v = Blank
+answeredAs PrgRom v = FromPage v
+answeredAs PrgRam v = FromPage v
+answeredAs Chr v = FromPage v
+answeredAs CiRam v = FromPage v
+answeredAs ExRam v = FromPage v
 
 unfoldable pub pageAnswer : Mem → Page → ℕ → Answer
-pageAnswer m p a = shownAs (p .src) (pageByte m p a)
+pageAnswer m p a = answeredAs (p .src) (pageByte m p a)
 
 -- The registers that can be read, each with its address; elsewhere the page. Which they are is the Rust's (`prg_peek`). Module 9: "$5130 reads 0
 -- always."

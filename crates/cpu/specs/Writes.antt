@@ -7,7 +7,8 @@ use lib.Dec.{eqb, leb}
 use lib.ListN.{getD, set}
 use Rattle.memory.specs.declared.PageWord.{PageWord}
 use Rattle.memory.specs.Bytes.{Mem, memOf, pageStored}
-use Rattle.memory.specs.Words.{pick, word, pageOf}
+use Rattle.memory.specs.Tests.{pick}
+use Rattle.memory.specs.PageWords.{word, pageOf}
 use Rattle.registers.specs.declared.Regs.{Regs}
 use Rattle.registers.specs.Mirrorings.{mirroringAfter}
 use Rattle.registers.specs.Registers.{written, nametableUse}

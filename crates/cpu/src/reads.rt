@@ -2,8 +2,8 @@
 ghost use mathlib.Core.Path.{_≡_};
 ghost use Prim.Native.Nat.{_*_};
 ghost use Rattle.memory.specs.Bytes.{memOf};
-ghost use Rattle.memory.specs.Words.{pageOf};
-ghost use Rattle.cpu.specs.Reads.{shownAs, pageAnswer, registerRead, irqRead, audioRead};
+ghost use Rattle.memory.specs.PageWords.{pageOf};
+ghost use Rattle.cpu.specs.Reads.{answeredAs, pageAnswer, registerRead, irqRead, audioRead};
 use crate::groups;
 use answers::Answer;
 use memory::CpuAddr;
@@ -14,8 +14,8 @@ use scanline::Detector;
 use split::VSplit;
 
 // A byte of a source, as it is answered.
-fn shown_as(src: Src, val: u8) -> Answer
-    ensures { λ r. ⌜ r ≡ shownAs src val ⌝ }
+fn answered_as(src: Src, val: u8) -> Answer
+    ensures { λ r. ⌜ r ≡ answeredAs src val ⌝ }
 {
     match src {
         Src::Blank => Answer::Blank,
@@ -39,10 +39,10 @@ pub fn page_answer(
 ) -> Answer
     ensures { λ r. ⌜ r ≡ pageAnswer (memOf (now (prg .entry)) (now (chr .entry)) (now (ram .entry)) (now (ciram .entry)) (now (exram .entry))) (pageOf word) offset ⌝ }
 {
-    let place = memory::words::place_of(word, offset);
+    let place = memory::page_words::place_of(word, offset);
     let val = memory::bytes::peek(prg, chr, ram, ciram, exram, place);
     let src = place.src;
-    shown_as(src, val)
+    answered_as(src, val)
 }
 
 // The multiplier's result: $5205 has the low byte, $5206 the high one.

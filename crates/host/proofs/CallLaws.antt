@@ -6,7 +6,7 @@ use mathlib.Core.Path.{_≡_, refl, sym, ap, _∙_}
 use lib.ListN.{length}
 use Rattle.memory.specs.declared.PageWord.{PageWord}
 use Rattle.memory.specs.Bytes.{Mem, pageStored}
-use Rattle.memory.specs.Words.{pageOf}
+use Rattle.memory.specs.PageWords.{pageOf}
 use Rattle.answers.specs.declared.Answer.{Answer}
 use Rattle.answers.specs.declared.Answer.the-variants.{Nothing, Refused}
 use Rattle.answers.specs.declared.Refusal.{Refusal}
@@ -32,21 +32,21 @@ use Rattle.cpu.specs.Writes.{prgWordAt}
 use Rattle.board.specs.declared.Outcome.{Outcome}
 use Rattle.board.specs.CpuSide.{cpuRead}
 use Rattle.board.specs.Outcomes.{outcome, After, afterOf}
-use Rattle.board.specs.Whole.{clockCall, resetCall, ppuRegisterCall}
+use Rattle.board.specs.StateCalls.{clockCall, resetCall, ppuRegisterCall}
 use Rattle.board_ppu.specs.Peeks.{chrWordAt, ppuWrite}
 use Rattle.board_ppu.proofs.Made.{read-made, read-refused, ppu-write-made}
-use Rattle.promises.proofs.Promised.{who-is-refused}
+use Rattle.theorems_promises.proofs.Promised.{who-is-refused}
 use Rattle.host_state.specs.Put.{irqWords, regWords, statusWords}
 use Rattle.host_state.specs.Words.{statusOf, stateOf, wordsOf}
 use Rattle.host_state.proofs.Backs.{words-back}
 use Rattle.host_state.proofs.PutLaws.{irq-put, regs-put, status-put}
-use Rattle.told.specs.Told.{toldPlain, toldWith}
+use Rattle.host_answers.specs.Answers.{answerPlain, answerWithInterrupt}
 use Rattle.host.specs.Hosted.{leftWords, onWords, leftMemory, onMemory}
 use Rattle.host.proofs.HostLaws.{refused-left, refused-memory, taken-left, taken-memory, out-of-range-said, shut-said, open-in-range, status-said, irq-words}
 
 -- A state out of range, of a call that refuses it with 5.
 pub broken-left : (w : List ℕ) (f : State → Outcome) (o : Bool) (n : ℕ)
-    → o ≡ inRange (stateOf w) → not o ≡ true → (inRange (stateOf w) ≡ false → f (stateOf w) .answer ≡ Refused StateBroken) → n ≡ toldPlain (Refused StateBroken) → leftWords n w ≡ onWords w f
+    → o ≡ inRange (stateOf w) → not o ≡ true → (inRange (stateOf w) ≡ false → f (stateOf w) .answer ≡ Refused StateBroken) → n ≡ answerPlain (Refused StateBroken) → leftWords n w ≡ onWords w f
 broken-left w f o n e t ef en = refused-left w f StateBroken n (ef (out-of-range-said w o e t)) en
 
 pub clock-broken : (s : State) → inRange s ≡ false → clockCall s .answer ≡ Refused StateBroken
@@ -70,7 +70,7 @@ unfolding clockCall
 clock-done s d d′ h ed ed′ = rw (h, ed′, ed)
 
 pub clock-left : (w v : List ℕ) (d d′ : Detector) (n : ℕ)
-    → length w ≡ 144 → inRange (stateOf w) ≡ true → d ≡ stateOf w .irq → d′ ≡ clocked d → v ≡ irqWords w d′ → n ≡ toldWith Nothing d′ → leftWords n v ≡ onWords w (λ (s : State). clockCall s)
+    → length w ≡ 144 → inRange (stateOf w) ≡ true → d ≡ stateOf w .irq → d′ ≡ clocked d → v ≡ irqWords w d′ → n ≡ answerWithInterrupt Nothing d′ → leftWords n v ≡ onWords w (λ (s : State). clockCall s)
 clock-left w v d d′ n e h ed ed′ ev en =
     taken-left w v (λ (s : State). clockCall s) Nothing (withIrq (stateOf w) d′) n refl (clock-done (stateOf w) d d′ h ed ed′) (irq-words w v d′ e h ev) en
 
@@ -83,9 +83,9 @@ regs-words : (w v : List ℕ) (r : Regs) → length w ≡ 144 → inRange (state
 regs-words w v r e h ev = ev ∙ ap (λ (l : List ℕ). regWords l r) (sym (words-back w e h)) ∙ regs-put (stateOf w) r
 
 pub reset-left : (w v : List ℕ) (r r′ : Regs) (d : Detector) (n : ℕ)
-    → length w ≡ 144 → inRange (stateOf w) ≡ true → r ≡ stateOf w .regs → r′ ≡ resetRegs r → d ≡ stateOf w .irq → v ≡ regWords w r′ → n ≡ toldWith Nothing d → leftWords n v ≡ onWords w (λ (s : State). resetCall s)
+    → length w ≡ 144 → inRange (stateOf w) ≡ true → r ≡ stateOf w .regs → r′ ≡ resetRegs r → d ≡ stateOf w .irq → v ≡ regWords w r′ → n ≡ answerWithInterrupt Nothing d → leftWords n v ≡ onWords w (λ (s : State). resetCall s)
 reset-left w v r r′ d n e h er er′ ed ev en =
-    taken-left w v (λ (s : State). resetCall s) Nothing (withRegs (stateOf w) r′) n refl (reset-done (stateOf w) r r′ h er er′) (regs-words w v r′ e h ev) (en ∙ ap (toldWith Nothing) ed)
+    taken-left w v (λ (s : State). resetCall s) Nothing (withRegs (stateOf w) r′) n refl (reset-done (stateOf w) r r′ h er er′) (regs-words w v r′ e h ev) (en ∙ ap (answerWithInterrupt Nothing) ed)
 
 -- The PPU register write.
 register-done : (s : State) (a v : ℕ) (d d′ : Detector) (p p′ : PpuStatus) → inRange s ≡ true → d ≡ s .irq → d′ ≡ detectorAfter d a v → p ≡ s .ppu → p′ ≡ statusAfter p a v
@@ -100,33 +100,33 @@ status-irq-words w u v p d e h eu ev =
 
 pub register-left : (w u v : List ℕ) (a x : ℕ) (d d′ : Detector) (p p′ : PpuStatus) (n : ℕ)
     → length w ≡ 144 → inRange (stateOf w) ≡ true → d ≡ stateOf w .irq → d′ ≡ detectorAfter d a x → p ≡ statusOf w → p′ ≡ statusAfter p a x
-    → u ≡ statusWords w p′ → v ≡ irqWords u d′ → n ≡ toldWith Nothing d′ → leftWords n v ≡ onWords w (λ (s : State). ppuRegisterCall s a x)
+    → u ≡ statusWords w p′ → v ≡ irqWords u d′ → n ≡ answerWithInterrupt Nothing d′ → leftWords n v ≡ onWords w (λ (s : State). ppuRegisterCall s a x)
 register-left w u v a x d d′ p p′ n e h ed ed′ ep ep′ eu ev en =
     taken-left w v (λ (s : State). ppuRegisterCall s a x) Nothing (withIrq (withPpu (stateOf w) p′) d′) n refl
     (register-done (stateOf w) a x d d′ p p′ h ed ed′ (status-said w p h ep) ep′) (status-irq-words w u v p′ d′ e h eu ev) en
 
 -- The PPU memory write.
 pub store-shut : (w : List ℕ) (m : Mem) (a x : ℕ) (k : Gate) (r : Refusal) (n : ℕ)
-    → k ≡ gateMem (stateOf w) m → k ≡ Shut r → n ≡ toldPlain (Refused r) → leftMemory n w m ≡ onMemory w m (λ (s : State). ppuWrite s m a x)
+    → k ≡ gateMem (stateOf w) m → k ≡ Shut r → n ≡ answerPlain (Refused r) → leftMemory n w m ≡ onMemory w m (λ (s : State). ppuWrite s m a x)
 store-shut w m a x k r n e t en =
     refused-memory w m (λ (s : State). ppuWrite s m a x) r n (ap (λ (y : After). y .out .answer) (who-is-refused .ppu-write-shut (stateOf w) m a x r (shut-said w m k r e t))) en
 
 pub store-left : (w : List ℕ) (m m′ : Mem) (a x : ℕ) (y : PageWord) (d : Detector) (n : ℕ)
-    → length w ≡ 144 → gateMem (stateOf w) m ≡ Open → y ≡ chrWordAt (stateOf w .«chr_pages») a → m′ ≡ pageStored m (pageOf y) a x → d ≡ stateOf w .irq → n ≡ toldWith Nothing d
+    → length w ≡ 144 → gateMem (stateOf w) m ≡ Open → y ≡ chrWordAt (stateOf w .«chr_pages») a → m′ ≡ pageStored m (pageOf y) a x → d ≡ stateOf w .irq → n ≡ answerWithInterrupt Nothing d
     → leftMemory n w m′ ≡ onMemory w m (λ (s : State). ppuWrite s m a x)
 store-left w m m′ a x y d n e g ey em ed en =
     let stored : m′ ≡ pageStored m (pageOf (chrWordAt (stateOf w .«chr_pages») a)) a x = em ∙ ap (λ (z : PageWord). pageStored m (pageOf z) a x) ey in
     taken-memory w w m m′ (λ (s : State). ppuWrite s m a x) Nothing (stateOf w) n refl
     (ppu-write-made (stateOf w) m g a x ∙ ap (afterOf (outcome Nothing (stateOf w))) (sym stored))
-    (sym (words-back w e (open-in-range w m g))) (en ∙ ap (toldWith Nothing) ed)
+    (sym (words-back w e (open-in-range w m g))) (en ∙ ap (answerWithInterrupt Nothing) ed)
 
 -- The CPU read.
-pub read-shut : (w : List ℕ) (m : Mem) (a : ℕ) (k : Gate) (r : Refusal) (n : ℕ) → k ≡ gateMem (stateOf w) m → k ≡ Shut r → n ≡ toldPlain (Refused r) → leftWords n w ≡ onWords w (λ (s : State). cpuRead s m a)
+pub read-shut : (w : List ℕ) (m : Mem) (a : ℕ) (k : Gate) (r : Refusal) (n : ℕ) → k ≡ gateMem (stateOf w) m → k ≡ Shut r → n ≡ answerPlain (Refused r) → leftWords n w ≡ onWords w (λ (s : State). cpuRead s m a)
 read-shut w m a k r n e t en =
     refused-left w (λ (s : State). cpuRead s m a) r n (ap (λ (o : Outcome). o .answer) (who-is-refused .read-shut (stateOf w) m a r (shut-said w m k r e t))) en
 
 pub read-audio : (w : List ℕ) (m : Mem) (a : ℕ) (b : Bool) (n : ℕ)
-    → gateMem (stateOf w) m ≡ Open → b ≡ audioRead a → b ≡ true → n ≡ toldPlain (Refused Audio) → leftWords n w ≡ onWords w (λ (s : State). cpuRead s m a)
+    → gateMem (stateOf w) m ≡ Open → b ≡ audioRead a → b ≡ true → n ≡ answerPlain (Refused Audio) → leftWords n w ≡ onWords w (λ (s : State). cpuRead s m a)
 read-audio w m a b n g eb tb en =
     refused-left w (λ (s : State). cpuRead s m a) Audio n (ap (λ (o : Outcome). o .answer) (read-refused (stateOf w) m g a (sym eb ∙ tb))) en
 
@@ -140,7 +140,7 @@ read-done s m a x y r v d d′ pb cb g f ex er ev ed ep ec ey ed′ = read-made 
 pub read-left : (w u : List ℕ) (m : Mem) (a : ℕ) (b : Bool) (x : PageWord) (y : Answer) (r : Regs) (v : VSplit) (d d′ : Detector) (pb cb : List ℕ) (n : ℕ)
     → length w ≡ 144 → gateMem (stateOf w) m ≡ Open → b ≡ audioRead a → b ≡ false
     → x ≡ prgWordAt (stateOf w .«prg_pages») a → r ≡ stateOf w .regs → v ≡ stateOf w .vsplit → d ≡ stateOf w .irq → pb ≡ stateOf w .«prg_banks» → cb ≡ stateOf w .«chr_banks»
-    → y ≡ registerRead r v d pb cb a (pageAnswer m (pageOf x) a) → d′ ≡ irqRead d a → u ≡ irqWords w d′ → n ≡ toldWith y d′
+    → y ≡ registerRead r v d pb cb a (pageAnswer m (pageOf x) a) → d′ ≡ irqRead d a → u ≡ irqWords w d′ → n ≡ answerWithInterrupt y d′
     → leftWords n u ≡ onWords w (λ (s : State). cpuRead s m a)
 read-left w u m a b x y r v d d′ pb cb n e g eb tb ex er ev ed ep ec ey ed′ eu en =
     let f : audioRead a ≡ false = sym eb ∙ tb in

@@ -9,7 +9,8 @@ use lib.Dec.{ltb}
 use lib.ListN.{length, take, drop, length-map}
 use Rattle.memory.specs.declared.PageWord.{PageWord}
 use Rattle.memory.specs.Bytes.{Mem}
-use Rattle.memory.specs.Words.{pick, word, pageOf}
+use Rattle.memory.specs.Tests.{pick}
+use Rattle.memory.specs.PageWords.{word, pageOf}
 use Rattle.memory.proofs.Tests.{pick-keeps}
 use Rattle.answers.specs.declared.Answer.{Answer}
 use Rattle.answers.specs.Refused.{isRefused}
@@ -42,8 +43,8 @@ use Rattle.board.specs.Outcomes.{outcome}
 use Rattle.board_ppu.specs.Fetch.{patternPages, ppuFetch}
 use Rattle.board_ppu.specs.Peeks.{chrWordAt, chrAnswer}
 use Rattle.board_ppu.proofs.Made.{fetch-counted, fetch-other}
-use Rattle.promises.proofs.Gates.{in-range-of}
-use Rattle.promises.proofs.Promised.{who-is-refused}
+use Rattle.theorems_promises.proofs.Gates.{in-range-of}
+use Rattle.theorems_promises.proofs.Promised.{who-is-refused}
 use Rattle.steps.specs.Sides.{chosenAt}
 use Rattle.host_state.specs.Put.{irqWords, tileWords, regionWords, setWords, chrPageWords}
 use Rattle.host_state.specs.Words.{lengthsOf, regsOf, splitOf, detectorOf, statusOf, chrBanksOf, pagesOf, chrNumbers, stateOf, wordsOf}
@@ -51,7 +52,7 @@ use Rattle.host_state.proofs.Backs.{words-back}
 use Rattle.host_state.proofs.Forths.{chr-pages-forth}
 use Rattle.host_state.proofs.PartLaws.{part-length}
 use Rattle.host_state.proofs.PutLaws.{KeepsFlags, KeepsSplit, KeepsTiles, region-put, tiles-put, set-put, chr-pages-put}
-use Rattle.told.specs.Told.{toldWith}
+use Rattle.host_answers.specs.Answers.{answerWithInterrupt}
 use Rattle.host.specs.Hosted.{leftWords, onWords}
 use Rattle.host.proofs.HostLaws.{taken-left, status-said, irq-words}
 
@@ -171,7 +172,7 @@ module _ (w : List ℕ) (m : Mem) (a : ℕ) (r : Regs) (d : Detector) (p : PpuSt
   pub counted-left : (d′ : Detector) (p′ : PpuStatus) (v′ : VSplit) (x : PageWord) (y : Answer) (w₁ w₂ w₃ : List ℕ) (n : ℕ) → countedAt a ≡ true
       → d′ ≡ seenAt d a → p′ ≡ ppuSeen r (seenAt d a .«match_count») p a → v′ ≡ splitSeen r v (seenAt d a) (ppuSeen r (seenAt d a .«match_count») p a .«tile_number») a
       → x ≡ chrWordAt (pagesOf (chrNumbers w)) a → y ≡ countedServed r v′ (d′ .«in_frame») p′ (m .exram) a (pageAnswer m (pageOf x) a)
-      → w₁ ≡ irqWords w d′ → w₂ ≡ tileWords w₁ p′ → w₃ ≡ regionWords w₂ v′ → n ≡ toldWith y d′ → leftWords n w₃ ≡ onWords w (λ (s : State). ppuFetch s m a)
+      → w₁ ≡ irqWords w d′ → w₂ ≡ tileWords w₁ p′ → w₃ ≡ regionWords w₂ v′ → n ≡ answerWithInterrupt y d′ → leftWords n w₃ ≡ onWords w (λ (s : State). ppuFetch s m a)
   counted-left d′ p′ v′ x y w₁ w₂ w₃ n t ed′ ep′ ev′ ex ey e₁ e₂ e₃ en =
       let s = stateOf w in
       let done = counted-done s m a r d p v h f er ed status ev d′ p′ v′ x y t ed′ ep′ ev′ ex ey in
@@ -183,10 +184,10 @@ module _ (w : List ℕ) (m : Mem) (a : ℕ) (r : Regs) (d : Detector) (p : PpuSt
   pub other-left : (p′ : PpuStatus) (x : PageWord) (y : Answer) (w₁ w₂ : List ℕ) (n : ℕ) → countedAt a ≡ false
       → p′ ≡ chosenAt p (d .«in_frame») a → w₁ ≡ wordsOf (withChrPages (stateOf w) (patternPages (stateOf w) (p′ .«bg_set»))) → x ≡ chrWordAt (pagesOf (chrNumbers w₁)) a
       → y ≡ pick (ltb a 0x2000) (patternServed r v d p′ (m .exram) (m .chr) a (pageAnswer m (pageOf x) a)) (pageAnswer m (pageOf x) a)
-      → w₂ ≡ setWords w₁ p′ → n ≡ toldWith y d → leftWords n w₂ ≡ onWords w (λ (s : State). ppuFetch s m a)
+      → w₂ ≡ setWords w₁ p′ → n ≡ answerWithInterrupt y d → leftWords n w₂ ≡ onWords w (λ (s : State). ppuFetch s m a)
   other-left p′ x y w₁ w₂ n t ep′ e₁ ex ey e₂ en =
       let s = stateOf w in
       let pages = patternPages s (p′ .«bg_set») in
       let done = other-done s m a r d p v h f er ed status ev p′ x y t ep′ (word-after w e w₁ (p′ .«bg_set») x a e₁ ex) ey in
       let put : w₂ ≡ wordsOf (withChrPages (withPpu s p′) pages) = e₂ ∙ ap (λ (l : List ℕ). setWords l p′) e₁ ∙ set-put (withChrPages s pages) p′ (tiles-kept p (s .ppu) p′ (d .«in_frame») a status ep′) in
-      taken-left w w₂ (λ (s : State). ppuFetch s m a) y (withChrPages (withPpu s p′) pages) n (answered s m a r d p v h f er ed status ev y _ done) done put (en ∙ ap (toldWith y) ed)
+      taken-left w w₂ (λ (s : State). ppuFetch s m a) y (withChrPages (withPpu s p′) pages) n (answered s m a r d p v h f er ed status ev y _ done) done put (en ∙ ap (answerWithInterrupt y) ed)

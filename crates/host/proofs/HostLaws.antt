@@ -23,38 +23,38 @@ use Rattle.state.specs.With.{withIrq}
 use Rattle.board.specs.declared.Outcome.{Outcome}
 use Rattle.board.specs.Loads.{loadCall}
 use Rattle.board.specs.Outcomes.{outcome, After, afterOf}
-use Rattle.promises.proofs.Gates.{in-range-of}
+use Rattle.theorems_promises.proofs.Gates.{in-range-of}
 use Rattle.host_state.specs.Put.{irqWords}
 use Rattle.host_state.specs.Words.{statusOf, stateOf, wordsOf}
 use Rattle.host_state.proofs.Within.{range-limits}
 use Rattle.host_state.proofs.Backs.{words-back}
 use Rattle.host_state.proofs.PutLaws.{irq-put}
-use Rattle.told.specs.Told.{toldPlain, toldWith}
+use Rattle.host_answers.specs.Answers.{answerPlain, answerWithInterrupt}
 use Rattle.host.specs.Hosted.{leftWords, leavingWords, onWords, leftMemory, leavingMemory, onMemory}
 
 -- A refusal leaves the words, and the bytes.
-pub refused-left : (w : List ℕ) (f : State → Outcome) (r : Refusal) (n : ℕ) → f (stateOf w) .answer ≡ Refused r → n ≡ toldPlain (Refused r) → leftWords n w ≡ onWords w f
+pub refused-left : (w : List ℕ) (f : State → Outcome) (r : Refusal) (n : ℕ) → f (stateOf w) .answer ≡ Refused r → n ≡ answerPlain (Refused r) → leftWords n w ≡ onWords w f
 unfolding onWords
 refused-left w f r n ef en = rw (ef, en)
 
-pub refused-memory : (w : List ℕ) (m : Mem) (f : State → After) (r : Refusal) (n : ℕ) → f (stateOf w) .out .answer ≡ Refused r → n ≡ toldPlain (Refused r) → leftMemory n w m ≡ onMemory w m f
+pub refused-memory : (w : List ℕ) (m : Mem) (f : State → After) (r : Refusal) (n : ℕ) → f (stateOf w) .out .answer ≡ Refused r → n ≡ answerPlain (Refused r) → leftMemory n w m ≡ onMemory w m f
 unfolding onMemory
 refused-memory w m f r n ef en = rw (ef, en)
 
 -- A call that is taken leaves the words of the state after it.
 pub taken-left : (w v : List ℕ) (f : State → Outcome) (a : Answer) (t : State) (n : ℕ)
-    → isRefused a ≡ false → f (stateOf w) ≡ outcome a t → v ≡ wordsOf t → n ≡ toldWith a (t .irq) → leftWords n v ≡ onWords w f
+    → isRefused a ≡ false → f (stateOf w) ≡ outcome a t → v ≡ wordsOf t → n ≡ answerWithInterrupt a (t .irq) → leftWords n v ≡ onWords w f
 unfolding onWords
-taken-left w v f a t n ea ef ev en = rw (ef, accepted-goes-on a (λ (r : Refusal). leftWords (toldPlain (Refused r)) w) (leavingWords (outcome a t)) ea, en, ev)
+taken-left w v f a t n ea ef ev en = rw (ef, accepted-goes-on a (λ (r : Refusal). leftWords (answerPlain (Refused r)) w) (leavingWords (outcome a t)) ea, en, ev)
 
 pub taken-memory : (w v : List ℕ) (m m′ : Mem) (f : State → After) (a : Answer) (t : State) (n : ℕ)
-    → isRefused a ≡ false → f (stateOf w) ≡ afterOf (outcome a t) m′ → v ≡ wordsOf t → n ≡ toldWith a (t .irq) → leftMemory n v m′ ≡ onMemory w m f
+    → isRefused a ≡ false → f (stateOf w) ≡ afterOf (outcome a t) m′ → v ≡ wordsOf t → n ≡ answerWithInterrupt a (t .irq) → leftMemory n v m′ ≡ onMemory w m f
 unfolding onMemory
-taken-memory w v m m′ f a t n ea ef ev en = rw (ef, accepted-goes-on a (λ (r : Refusal). leftMemory (toldPlain (Refused r)) w m) (leavingMemory (afterOf (outcome a t) m′)) ea, en, ev)
+taken-memory w v m m′ f a t n ea ef ev en = rw (ef, accepted-goes-on a (λ (r : Refusal). leftMemory (answerPlain (Refused r)) w m) (leavingMemory (afterOf (outcome a t) m′)) ea, en, ev)
 
 -- A load puts its state, whatever the words were.
 pub load-left : (m : Mem) (b : Bool) (s k : Mirroring) (o : Outcome) (v : List ℕ) (n : ℕ)
-    → o ≡ loadCall m b s → s ≡ k → v ≡ wordsOf (o .state) → n ≡ toldWith (o .answer) (o .state .irq) → leftWords n v ≡ leavingWords (loadCall m b k)
+    → o ≡ loadCall m b s → s ≡ k → v ≡ wordsOf (o .state) → n ≡ answerWithInterrupt (o .answer) (o .state .irq) → leftWords n v ≡ leavingWords (loadCall m b k)
 load-left m b s k o v n eo es ev en = rw (en, ev, eo, es)
 
 -- What the tests say where they hold: the state is in range, and the words are its words.

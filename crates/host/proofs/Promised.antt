@@ -5,7 +5,7 @@ use mathlib.Core.List.{List}
 use mathlib.Core.Path.{_≡_, ap}
 use native.Mathlib.Omega.{arith}
 use Rattle.memory.specs.Bytes.{Mem}
-use Rattle.memory.specs.Words.{pick}
+use Rattle.memory.specs.Tests.{pick}
 use Rattle.answers.specs.declared.Answer.{Answer}
 use Rattle.answers.specs.declared.Answer.the-variants.{Refused}
 use Rattle.answers.specs.declared.Refusal.{Refusal}
@@ -20,13 +20,13 @@ use Rattle.state.specs.declared.State.{State}
 use Rattle.board.specs.declared.Outcome.{Outcome}
 use Rattle.board.specs.CpuSide.{cpuRead, cpuWrite}
 use Rattle.board.specs.Outcomes.{After}
-use Rattle.board.specs.Whole.{resetCall, clockCall, ppuRegisterCall}
+use Rattle.board.specs.StateCalls.{resetCall, clockCall, ppuRegisterCall}
 use Rattle.board_ppu.specs.Fetch.{ppuFetch}
 use Rattle.board_ppu.specs.Peeks.{ppuWrite}
 use Rattle.trace.specs.declared.Call.{Call}
 use Rattle.trace.specs.declared.Call.the-variants.{Clock, CpuRead, CpuWrite, PpuRegister, PpuFetch, Reset, PpuWrite}
 use Rattle.host_state.specs.Words.{stateOf}
-use Rattle.told.specs.Told.{toldPlain, toldWith}
+use Rattle.host_answers.specs.Answers.{answerPlain, answerWithInterrupt}
 use Rattle.host.specs.Hosted.{LeftWords, leftWords, leavingWords, onWords, LeftMemory, leftMemory, leavingMemory, onMemory}
 use Rattle.host.specs.Promise.{withMemory, calledOn, RefusalsLeaveAll}
 
@@ -35,32 +35,32 @@ above : (up : Bool) (l v : ℕ) (r : Refusal) → 0x21 < l → pick up (l * 256 
 above true l v r h e = omega (arith, h, e, numbered .most r)
 above false l v r h e = omega (arith, h, e, numbered .most r)
 
-no-refusal-told : (a : Answer) (d : Detector) (r : Refusal) → isRefused a ≡ false → toldWith a d ≡ toldPlain (Refused r) → ⊥
-no-refusal-told a d r f e = above (interruptUp d) (letterOf a) (valueOf a) r (letter-range a .1 f) (rw f at e)
+no-refusal-answered : (a : Answer) (d : Detector) (r : Refusal) → isRefused a ≡ false → answerWithInterrupt a d ≡ answerPlain (Refused r) → ⊥
+no-refusal-answered a d r f e = above (interruptUp d) (letterOf a) (valueOf a) r (letter-range a .1 f) (rw f at e)
 
 module _ (w : List ℕ) (r : Refusal) where
-  words-kept : (f : State → Outcome) → onWords w f .number ≡ toldPlain (Refused r) → onWords w f ≡ leftWords (toldPlain (Refused r)) w
+  words-kept : (f : State → Outcome) → onWords w f .number ≡ answerPlain (Refused r) → onWords w f ≡ leftWords (answerPlain (Refused r)) w
   unfolding onWords
   words-kept f =
       let o = f (stateOf w) in
-      if-refused (λ (x : LeftWords). x .number ≡ toldPlain (Refused r) → x ≡ leftWords (toldPlain (Refused r)) w) (o .answer)
-      (λ (why : Refusal). leftWords (toldPlain (Refused why)) w) (leavingWords o)
+      if-refused (λ (x : LeftWords). x .number ≡ answerPlain (Refused r) → x ≡ leftWords (answerPlain (Refused r)) w) (o .answer)
+      (λ (why : Refusal). leftWords (answerPlain (Refused why)) w) (leavingWords o)
       (λ why ea n. ap (λ (k : ℕ). leftWords k w) n)
-      (λ no n. absurd (no-refusal-told (o .answer) (o .state .irq) r no n))
+      (λ no n. absurd (no-refusal-answered (o .answer) (o .state .irq) r no n))
 
-  memory-kept : (m : Mem) (f : State → After) → onMemory w m f .number ≡ toldPlain (Refused r) → onMemory w m f ≡ leftMemory (toldPlain (Refused r)) w m
+  memory-kept : (m : Mem) (f : State → After) → onMemory w m f .number ≡ answerPlain (Refused r) → onMemory w m f ≡ leftMemory (answerPlain (Refused r)) w m
   unfolding onMemory
   memory-kept m f =
       let o = f (stateOf w) .out in
-      if-refused (λ (x : LeftMemory). x .number ≡ toldPlain (Refused r) → x ≡ leftMemory (toldPlain (Refused r)) w m) (o .answer)
-      (λ (why : Refusal). leftMemory (toldPlain (Refused why)) w m) (leavingMemory (f (stateOf w)))
+      if-refused (λ (x : LeftMemory). x .number ≡ answerPlain (Refused r) → x ≡ leftMemory (answerPlain (Refused r)) w m) (o .answer)
+      (λ (why : Refusal). leftMemory (answerPlain (Refused why)) w m) (leavingMemory (f (stateOf w)))
       (λ why ea n. ap (λ (k : ℕ). leftMemory k w m) n)
-      (λ no n. absurd (no-refusal-told (o .answer) (o .state .irq) r no n))
+      (λ no n. absurd (no-refusal-answered (o .answer) (o .state .irq) r no n))
 
-  with-memory-kept : (m : Mem) (f : State → Outcome) → onWords w f .number ≡ toldPlain (Refused r) → withMemory (onWords w f) m ≡ leftMemory (toldPlain (Refused r)) w m
+  with-memory-kept : (m : Mem) (f : State → Outcome) → onWords w f .number ≡ answerPlain (Refused r) → withMemory (onWords w f) m ≡ leftMemory (answerPlain (Refused r)) w m
   with-memory-kept m f e = ap (λ (x : LeftWords). withMemory x m) (words-kept f e)
 
-kept : (c : Call) (w : List ℕ) (m : Mem) (r : Refusal) → calledOn c w m .number ≡ toldPlain (Refused r) → calledOn c w m ≡ leftMemory (toldPlain (Refused r)) w m
+kept : (c : Call) (w : List ℕ) (m : Mem) (r : Refusal) → calledOn c w m .number ≡ answerPlain (Refused r) → calledOn c w m ≡ leftMemory (answerPlain (Refused r)) w m
 kept Clock w m r e = with-memory-kept w r m (λ (s : State). clockCall s) e
 kept (CpuRead a) w m r e = with-memory-kept w r m (λ (s : State). cpuRead s m (a .0)) e
 kept (CpuWrite a v) w m r e = memory-kept w r m (λ (s : State). cpuWrite s m (a .0) v) e

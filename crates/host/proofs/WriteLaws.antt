@@ -8,7 +8,8 @@ use lib.Dec.{eqb}
 use lib.ListN.{length, getD, set, take, drop, length-map, length-set}
 use Rattle.memory.specs.declared.PageWord.{PageWord}
 use Rattle.memory.specs.Bytes.{Mem, memOf, pageStored}
-use Rattle.memory.specs.Words.{asBit, word, pageOf}
+use Rattle.memory.specs.Bits.{asBit}
+use Rattle.memory.specs.PageWords.{word, pageOf}
 use Rattle.memory.proofs.Tests.{pick-keeps}
 use Rattle.answers.specs.declared.Answer.the-variants.{Nothing, Refused}
 use Rattle.answers.specs.declared.Refusal.{Refusal}
@@ -38,13 +39,13 @@ use Rattle.steps.specs.Writes.{prgWrite, otherWrite}
 use Rattle.steps.proofs.Idle.{prgLeft, restLeft, write-idle, write-prg-is, write-rest-is, word-kept}
 use Rattle.board.specs.CpuSide.{cpuWrite}
 use Rattle.board.specs.Outcomes.{outcome, After, afterOf}
-use Rattle.promises.proofs.Promised.{who-is-refused}
+use Rattle.theorems_promises.proofs.Promised.{who-is-refused}
 use Rattle.host_state.specs.Put.{regWords, splitWords, irqWords, statusWords, mirroringWords, prgBankWords, chrBankWords, prgPageWords, chrPageWords, exramWords}
 use Rattle.host_state.specs.Words.{lowByte, lengthsOf, regsOf, splitOf, detectorOf, statusOf, mirroringNumbered, prgBanksOf, chrBanksOf, pagesOf, prgNumbers, chrNumbers, stateOf, wordsOf}
 use Rattle.host_state.proofs.Backs.{words-back}
 use Rattle.host_state.proofs.PartLaws.{part-length}
 use Rattle.host_state.proofs.PutLaws.{prg-banks-put, chr-banks-put, prg-pages-put, chr-pages-put, exram-put}
-use Rattle.told.specs.Told.{toldPlain, toldWith}
+use Rattle.host_answers.specs.Answers.{answerPlain, answerWithInterrupt}
 use Rattle.host.specs.Hosted.{leftMemory, onMemory}
 use Rattle.host.proofs.HostLaws.{refused-memory, taken-memory, open-said, shut-said, status-said}
 
@@ -136,13 +137,13 @@ module _ (w : List ℕ) (a v : ℕ) (e : length w ≡ 144) (h : inRange (stateOf
   pub idle-words : within 0x5100 0x5206 a ≡ false → w ≡ wordsOf (registerWritten (stateOf w) a v)
   idle-words o = sym (words-back w e h) ∙ ap wordsOf (sym (write-idle a o (stateOf w) v))
 
--- The number that is told, of the detector that the words then hold.
+-- The number that is answered, of the detector that the words then hold.
 flag-back : (b : Bool) → eqb (asBit b) 1 ≡ b
 flag-back true = refl
 flag-back false = refl
 
-told-back : (t : State) (w : List ℕ) (d : Detector) (n : ℕ) → w ≡ wordsOf t → d ≡ detectorOf w → n ≡ toldWith Nothing d → n ≡ toldWith Nothing (t .irq)
-told-back t w d n ew ed en = en ∙ ap (toldWith Nothing) (ed ∙ ap detectorOf ew) ∙ rw (flag-back (t .irq .pending), flag-back (t .irq .«irq_enabled»))
+answer-back : (t : State) (w : List ℕ) (d : Detector) (n : ℕ) → w ≡ wordsOf t → d ≡ detectorOf w → n ≡ answerWithInterrupt Nothing d → n ≡ answerWithInterrupt Nothing (t .irq)
+answer-back t w d n ew ed en = en ∙ ap (answerWithInterrupt Nothing) (ed ∙ ap detectorOf ew) ∙ rw (flag-back (t .irq .pending), flag-back (t .irq .«irq_enabled»))
 
 -- The bytes, stored before the registers are written.
 pub bytes-stored : (w : List ℕ) (m m′ : Mem) (a v : ℕ) (g : Regs) (p : PpuStatus) (x : PageWord) → inRange (stateOf w) ≡ true
@@ -157,11 +158,11 @@ module _ (w : List ℕ) (m : Mem) (a v : ℕ) where
   abbrev writing : State → After
   writing s = cpuWrite s m a v
 
-  pub write-shut : (k : Gate) (r : Refusal) (n : ℕ) → k ≡ gateMem (stateOf w) m → k ≡ Shut r → n ≡ toldPlain (Refused r) → leftMemory n w m ≡ onMemory w m writing
+  pub write-shut : (k : Gate) (r : Refusal) (n : ℕ) → k ≡ gateMem (stateOf w) m → k ≡ Shut r → n ≡ answerPlain (Refused r) → leftMemory n w m ≡ onMemory w m writing
   write-shut k r n e t en =
       refused-memory w m writing r n (ap (λ (x : After). x .out .answer) (who-is-refused .write-shut (stateOf w) m a v r (shut-said w m k r e t))) en
 
-  pub write-audio : (k : Gate) (b : Bool) (n : ℕ) → k ≡ gateMem (stateOf w) m → k ≡ Open → b ≡ audioWrite a → b ≡ true → n ≡ toldPlain (Refused Audio) → leftMemory n w m ≡ onMemory w m writing
+  pub write-audio : (k : Gate) (b : Bool) (n : ℕ) → k ≡ gateMem (stateOf w) m → k ≡ Open → b ≡ audioWrite a → b ≡ true → n ≡ answerPlain (Refused Audio) → leftMemory n w m ≡ onMemory w m writing
   unfolding cpuWrite
   write-audio k b n e t eb tb en = refused-memory w m writing Audio n (rw (open-said w m k e t, ← eb, tb)) en
 
@@ -171,7 +172,7 @@ module _ (w : List ℕ) (m : Mem) (a v : ℕ) where
   write-is m′ o f e = rw (o, f, e)
 
   pub write-done : (k : Gate) (b : Bool) (m′ : Mem) (l : List ℕ) (d : Detector) (n : ℕ) → k ≡ gateMem (stateOf w) m → k ≡ Open → b ≡ audioWrite a → b ≡ false
-      → m′ ≡ cpuStored (stateOf w) m a v → l ≡ wordsOf (registerWritten (stateOf w) a v) → d ≡ detectorOf l → n ≡ toldWith Nothing d → leftMemory n l m′ ≡ onMemory w m writing
+      → m′ ≡ cpuStored (stateOf w) m a v → l ≡ wordsOf (registerWritten (stateOf w) a v) → d ≡ detectorOf l → n ≡ answerWithInterrupt Nothing d → leftMemory n l m′ ≡ onMemory w m writing
   write-done k b m′ l d n e t eb tb em el ed en =
       let after = registerWritten (stateOf w) a v in
-      taken-memory w l m m′ writing Nothing after n refl (write-is m′ (open-said w m k e t) (sym eb ∙ tb) em) el (told-back after l d n el ed en)
+      taken-memory w l m m′ writing Nothing after n refl (write-is m′ (open-said w m k e t) (sym eb ∙ tb) em) el (answer-back after l d n el ed en)

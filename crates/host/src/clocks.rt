@@ -1,7 +1,7 @@
 // The clock: only the detector is read and put back.
 ghost use mathlib.Core.Path.{_≡_};
 ghost use Rattle.state.specs.declared.State.{State};
-ghost use Rattle.board.specs.Whole.{clockCall};
+ghost use Rattle.board.specs.StateCalls.{clockCall};
 ghost use Rattle.host.specs.Hosted.{leftWords, onWords};
 use answers::Answer;
 use answers::Refusal;
@@ -17,10 +17,10 @@ pub extern "C" fn mmc5_clock(words: &mut [u16; 144]) -> u32
 {
     limits::sized(*words);
     if !gate::in_range(words) {
-        return told::plain(Answer::Refused(Refusal::State));
+        return host_answers::plain(Answer::Refused(Refusal::State));
     }
     let before = read::detector_of(words);
     let after = scanline::clock(before);
     groups::put_detector(after, words);
-    told::with_interrupt(Answer::Nothing, after)
+    host_answers::with_interrupt(Answer::Nothing, after)
 }

@@ -59,27 +59,27 @@ pub extern "C" fn mmc5_ppu_fetch(
         exram.len(),
     );
     if let Gate::Shut(refusal) = gate {
-        return told::plain(Answer::Refused(refusal));
+        return host_answers::plain(Answer::Refused(refusal));
     }
     let at = PpuAddr(addr);
     let irq = read::detector_of(words);
     if scanline::counter_refused(irq, at) {
-        return told::plain(Answer::Refused(Refusal::Counter));
+        return host_answers::plain(Answer::Refused(Refusal::Counter));
     }
     let ppu = read::status_of(words);
     let regs = read::regs_of(words);
     let vsplit = read::split_of(words);
     if scanline::tiles::counted(at) {
         let counted = ppu_side::count_fetch(regs, irq, ppu, vsplit, at);
-        let seen = counted.irq;
-        let status = counted.ppu;
-        let region = counted.vsplit;
+        let irq_after = counted.irq;
+        let ppu_after = counted.ppu;
+        let split_after = counted.vsplit;
         let word = tables::chr_word(words, at);
         let answer = ppu_side::counted_answer(
             regs,
-            region,
-            seen.in_frame,
-            status,
+            split_after,
+            irq_after.in_frame,
+            ppu_after,
             word,
             prg,
             chr,
@@ -88,10 +88,10 @@ pub extern "C" fn mmc5_ppu_fetch(
             exram,
             at,
         );
-        groups::put_detector(seen, words);
-        groups::put_tiles(status, words);
-        groups::put_region(region, words);
-        return told::with_interrupt(answer, seen);
+        groups::put_detector(irq_after, words);
+        groups::put_tiles(ppu_after, words);
+        groups::put_region(split_after, words);
+        return host_answers::with_interrupt(answer, irq_after);
     }
     let chosen = ppu_side::chosen_at(ppu, irq.in_frame, at);
     map_on_change(ppu.bg_set, chosen.bg_set, words);
@@ -110,5 +110,5 @@ pub extern "C" fn mmc5_ppu_fetch(
         at,
     );
     groups::put_set(chosen, words);
-    told::with_interrupt(answer, irq)
+    host_answers::with_interrupt(answer, irq)
 }

@@ -1,7 +1,7 @@
 // The PPU register write: the PPU status and the detector are read and put back.
 ghost use mathlib.Core.Path.{_≡_};
 ghost use Rattle.state.specs.declared.State.{State};
-ghost use Rattle.board.specs.Whole.{ppuRegisterCall};
+ghost use Rattle.board.specs.StateCalls.{ppuRegisterCall};
 ghost use Rattle.host.specs.Hosted.{leftWords, onWords};
 use answers::Answer;
 use answers::Refusal;
@@ -18,7 +18,7 @@ pub extern "C" fn mmc5_ppu_register(words: &mut [u16; 144], addr: u16, val: u8) 
 {
     limits::sized(*words);
     if !gate::in_range(words) {
-        return told::plain(Answer::Refused(Refusal::State));
+        return host_answers::plain(Answer::Refused(Refusal::State));
     }
     let at = CpuAddr(addr);
     let before = read::detector_of(words);
@@ -27,5 +27,5 @@ pub extern "C" fn mmc5_ppu_register(words: &mut [u16; 144], addr: u16, val: u8) 
     let ppu = cpu::ppu_registers::status_after(status, at, val);
     groups::put_status(ppu, words);
     groups::put_detector(irq, words);
-    told::with_interrupt(Answer::Nothing, irq)
+    host_answers::with_interrupt(Answer::Nothing, irq)
 }

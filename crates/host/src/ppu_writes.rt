@@ -37,11 +37,11 @@ pub extern "C" fn mmc5_ppu_write(
         exram.len(),
     );
     if let Gate::Shut(refusal) = gate {
-        return told::plain(Answer::Refused(refusal));
+        return host_answers::plain(Answer::Refused(refusal));
     }
     let at = PpuAddr(addr);
     let irq = read::detector_of(words);
     let word = tables::chr_word(words, at);
     memory::bytes::store(chr, ram, ciram, exram, word, at.0 % 1024, val);
-    told::with_interrupt(Answer::Nothing, irq)
+    host_answers::with_interrupt(Answer::Nothing, irq)
 }

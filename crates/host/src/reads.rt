@@ -37,11 +37,11 @@ pub extern "C" fn mmc5_cpu_read(
         exram.len(),
     );
     if let Gate::Shut(refusal) = gate {
-        return told::plain(Answer::Refused(refusal));
+        return host_answers::plain(Answer::Refused(refusal));
     }
     let at = CpuAddr(addr);
     if cpu::reads::audio_read(at) {
-        return told::plain(Answer::Refused(Refusal::Audio));
+        return host_answers::plain(Answer::Refused(Refusal::Audio));
     }
     let irq = read::detector_of(words);
     let word = tables::prg_word(words, at);
@@ -65,5 +65,5 @@ pub extern "C" fn mmc5_cpu_read(
     );
     let after = cpu::reads::irq_read(irq, at);
     groups::put_detector(after, words);
-    told::with_interrupt(answer, after)
+    host_answers::with_interrupt(answer, after)
 }

@@ -1,7 +1,7 @@
 // Reset: only the registers are read and put back.
 ghost use mathlib.Core.Path.{_≡_};
 ghost use Rattle.state.specs.declared.State.{State};
-ghost use Rattle.board.specs.Whole.{resetCall};
+ghost use Rattle.board.specs.StateCalls.{resetCall};
 ghost use Rattle.host.specs.Hosted.{leftWords, onWords};
 use answers::Answer;
 use answers::Refusal;
@@ -17,11 +17,11 @@ pub extern "C" fn mmc5_reset(words: &mut [u16; 144]) -> u32
 {
     limits::sized(*words);
     if !gate::in_range(words) {
-        return told::plain(Answer::Refused(Refusal::State));
+        return host_answers::plain(Answer::Refused(Refusal::State));
     }
     let irq = read::detector_of(words);
     let before = read::regs_of(words);
     let after = registers::reset(before);
     groups::put_regs(after, words);
-    told::with_interrupt(Answer::Nothing, irq)
+    host_answers::with_interrupt(Answer::Nothing, irq)
 }

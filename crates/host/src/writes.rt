@@ -30,12 +30,12 @@ fn write_prg(words: &mut [u16; 144], addr: CpuAddr, val: u8)
     let banks = read::prg_banks_of(words);
     let pages = tables::prg_table(words);
     let w = register_writes::write_prg(lengths, regs, banks, pages, addr, val);
-    let after = w.regs;
-    let prg_banks = w.banks;
-    let prg_pages = w.pages;
-    groups::put_regs(after, words);
-    groups::put_prg_banks(prg_banks, words);
-    tables::put_prg_table(prg_pages, words);
+    let regs_after = w.regs;
+    let banks_after = w.banks;
+    let pages_after = w.pages;
+    groups::put_regs(regs_after, words);
+    groups::put_prg_banks(banks_after, words);
+    tables::put_prg_table(pages_after, words);
 }
 
 fn write_other(words: &mut [u16; 144], addr: CpuAddr, val: u8)
@@ -108,11 +108,11 @@ pub extern "C" fn mmc5_cpu_write(
         exram.len(),
     );
     if let Gate::Shut(refusal) = gate {
-        return told::plain(Answer::Refused(refusal));
+        return host_answers::plain(Answer::Refused(refusal));
     }
     let at = CpuAddr(addr);
     if cpu::writes::audio_write(at) {
-        return told::plain(Answer::Refused(Refusal::Audio));
+        return host_answers::plain(Answer::Refused(Refusal::Audio));
     }
     let regs = read::regs_of(words);
     let ppu = read::status_of(words);
@@ -137,5 +137,5 @@ pub extern "C" fn mmc5_cpu_write(
         }
     }
     let irq = read::detector_of(words);
-    told::with_interrupt(Answer::Nothing, irq)
+    host_answers::with_interrupt(Answer::Nothing, irq)
 }

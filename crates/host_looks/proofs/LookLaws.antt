@@ -4,21 +4,21 @@ use mathlib.Core.Bool.{Bool}
 use mathlib.Core.List.{List}
 use mathlib.Core.Path.{_≡_}
 use Rattle.memory.specs.declared.Page.{Page}
-use Rattle.memory.specs.Words.{pick}
+use Rattle.memory.specs.Tests.{pick}
 use Rattle.state.specs.declared.State.{State}
 use Rattle.state.specs.Ranges.{inRange}
 use Rattle.host_state.specs.Words.{stateOf}
 use Rattle.host_looks.specs.Looks.{lookOn}
 use Rattle.host_looks.specs.Pages.{entryNumber, noEntry, entryOn, copied, copiedOf, copyOn}
 
-pub look-told : {A : Type 0} (w : List ℕ) (told : A → ℕ) (f : State → A) (s : State) (a : A) (n : ℕ) → s ≡ stateOf w → a ≡ f s → n ≡ told a → n ≡ lookOn w told f
+pub look-answered : {A : Type 0} (w : List ℕ) (number : A → ℕ) (f : State → A) (s : State) (a : A) (n : ℕ) → s ≡ stateOf w → a ≡ f s → n ≡ number a → n ≡ lookOn w number f
 unfolding lookOn
-look-told w told f s a n es ea en = rw (en, ea, es)
+look-answered w number f s a n es ea en = rw (en, ea, es)
 
-pub entry-told : (w : List ℕ) (f : State → Page) (g : Bool) (p : Page) (n r : ℕ)
+pub entry-answered : (w : List ℕ) (f : State → Page) (g : Bool) (p : Page) (n r : ℕ)
     → g ≡ inRange (stateOf w) → p ≡ f (stateOf w) → n ≡ entryNumber p → r ≡ pick g n noEntry → r ≡ entryOn w f
 unfolding entryOn
-entry-told w f g p n r eg ep en er = rw (er, eg, en, ep)
+entry-answered w f g p n r eg ep en er = rw (er, eg, en, ep)
 
 pub page-copied : (w : List ℕ) (f : State → List ℕ) (out out′ part : List ℕ) (s : State) (n : ℕ)
     → s ≡ stateOf w → part ≡ f s → copiedOf n out′ ≡ copied part out → copiedOf n out′ ≡ copyOn w f out

@@ -7,7 +7,7 @@ use lib.ListN.{length}
 use Rattle.memory.specs.declared.Page.{Page}
 use Rattle.memory.specs.declared.Src.{Src}
 use Rattle.memory.specs.declared.Src.the-variants.{Blank, PrgRom, PrgRam, Chr, CiRam, ExRam}
-use Rattle.memory.specs.Words.{pick}
+use Rattle.memory.specs.Tests.{pick}
 use Rattle.answers.specs.declared.Answer.the-variants.{Refused}
 use Rattle.answers.specs.declared.Refusal.the-variants.{State as StateBroken}
 use Rattle.answers.specs.Letters.{letterOf, valueOf}
@@ -36,7 +36,7 @@ entryNumber p = sourceNumber (p .src) * 65536 + withinBuffer (p .index) (p .writ
 abbrev pub noEntry : ℕ
 noEntry = letterOf (Refused StateBroken) * 65536 + valueOf (Refused StateBroken)
 
--- The entry that is told of words that stand for a state in range.
+-- The entry that is answered of words that stand for a state in range.
 unfoldable pub entryOn : List ℕ → (State → Page) → ℕ
 entryOn w f = pick (inRange (stateOf w)) (entryNumber (f (stateOf w))) noEntry
 

@@ -1,15 +1,16 @@
 // What the page tables hold: an entry, and the bytes that a page shows, copied out.
 ghost use mathlib.Core.Path.{_≡_};
 ghost use Rattle.memory.specs.Bytes.{memOf};
-ghost use Rattle.memory.specs.Words.{pick, pageOf};
+ghost use Rattle.memory.specs.Tests.{pick};
+ghost use Rattle.memory.specs.PageWords.{pageOf};
 ghost use Rattle.state.specs.declared.State.{State};
 ghost use Rattle.cpu.specs.Writes.{prgWordAt};
 ghost use Rattle.board_ppu.specs.Peeks.{chrWordAt};
 ghost use Rattle.views.specs.Views.{cpuView, ppuView};
 ghost use Rattle.host_looks.specs.Pages.{withinBuffer, entryNumber, noEntry, entryOn, copied, copiedOf, copyOn};
+use host_state::full_state;
 use host_state::gate;
 use host_state::tables;
-use host_state::whole;
 use memory::CpuAddr;
 use memory::Page;
 use memory::PpuAddr;
@@ -56,7 +57,7 @@ pub extern "C" fn mmc5_cpu_entry(words: &[u16; 144], addr: u16) -> u32
 {
     let in_range = gate::in_range(words);
     let word = tables::prg_word(words, CpuAddr(addr));
-    let page = memory::words::page_of(word);
+    let page = memory::page_words::page_of(word);
     if_in_range(in_range, entry_number(page))
 }
 
@@ -67,7 +68,7 @@ pub extern "C" fn mmc5_ppu_entry(words: &[u16; 144], addr: u16) -> u32
 {
     let in_range = gate::in_range(words);
     let word = tables::chr_word(words, PpuAddr(addr));
-    let page = memory::words::page_of(word);
+    let page = memory::page_words::page_of(word);
     if_in_range(in_range, entry_number(page))
 }
 
@@ -101,7 +102,7 @@ pub extern "C" fn mmc5_cpu_page<'a>(
 ) -> u32
     ensures { λ r. ⌜ copiedOf r (now (out .exit)) ≡ copyOn (now (words .entry)) (λ (s : State). cpuView s (memOf (now (prg .entry)) (now (chr .entry)) (now (ram .entry)) (now (ciram .entry)) (now (exram .entry))) addr) (now (out .entry)) ⌝ }
 {
-    let s = whole::state_of(words);
+    let s = full_state::state_of(words);
     let part = views::cpu_view(s, prg, chr, ram, ciram, exram, CpuAddr(addr));
     copy(part, out)
 }
@@ -120,7 +121,7 @@ pub extern "C" fn mmc5_ppu_page(
 ) -> u32
     ensures { λ r. ⌜ copiedOf r (now (out .exit)) ≡ copyOn (now (words .entry)) (λ (s : State). ppuView s (memOf (now (prg .entry)) (now (chr .entry)) (now (ram .entry)) (now (ciram .entry)) (now (exram .entry))) addr) (now (out .entry)) ⌝ }
 {
-    let s = whole::state_of(words);
+    let s = full_state::state_of(words);
     let part = views::ppu_view(s, prg, chr, ram, ciram, exram, PpuAddr(addr));
     copy(part, out)
 }

@@ -4,9 +4,9 @@ ghost use Rattle.state.specs.declared.State.{State};
 ghost use Rattle.memory.specs.Bytes.{memOf};
 ghost use Rattle.board.specs.CpuSide.{cpuPeek};
 ghost use Rattle.board_ppu.specs.Peeks.{ppuPeek, spritePeek};
-ghost use Rattle.told.specs.Told.{toldPlain};
+ghost use Rattle.host_answers.specs.Answers.{answerPlain};
 ghost use Rattle.host_looks.specs.Looks.{lookOn};
-use host_state::whole;
+use host_state::full_state;
 use memory::CpuAddr;
 use memory::PpuAddr;
 
@@ -21,11 +21,11 @@ pub extern "C" fn mmc5_cpu_peek(
     exram: &[u8],
     addr: u16,
 ) -> u32
-    ensures { λ r. ⌜ r ≡ lookOn (now (words .entry)) toldPlain (λ (s : State). cpuPeek s (memOf (now (prg .entry)) (now (chr .entry)) (now (ram .entry)) (now (ciram .entry)) (now (exram .entry))) addr) ⌝ }
+    ensures { λ r. ⌜ r ≡ lookOn (now (words .entry)) answerPlain (λ (s : State). cpuPeek s (memOf (now (prg .entry)) (now (chr .entry)) (now (ram .entry)) (now (ciram .entry)) (now (exram .entry))) addr) ⌝ }
 {
-    let s = whole::state_of(words);
+    let s = full_state::state_of(words);
     let answer = board::cpu_side::cpu_peek(s, prg, chr, ram, ciram, exram, CpuAddr(addr));
-    told::plain(answer)
+    host_answers::plain(answer)
 }
 
 // A PPU peek.
@@ -39,11 +39,11 @@ pub extern "C" fn mmc5_ppu_peek(
     exram: &[u8],
     addr: u16,
 ) -> u32
-    ensures { λ r. ⌜ r ≡ lookOn (now (words .entry)) toldPlain (λ (s : State). ppuPeek s (memOf (now (prg .entry)) (now (chr .entry)) (now (ram .entry)) (now (ciram .entry)) (now (exram .entry))) addr) ⌝ }
+    ensures { λ r. ⌜ r ≡ lookOn (now (words .entry)) answerPlain (λ (s : State). ppuPeek s (memOf (now (prg .entry)) (now (chr .entry)) (now (ram .entry)) (now (ciram .entry)) (now (exram .entry))) addr) ⌝ }
 {
-    let s = whole::state_of(words);
+    let s = full_state::state_of(words);
     let answer = board_ppu::peeks::ppu_peek(s, prg, chr, ram, ciram, exram, PpuAddr(addr));
-    told::plain(answer)
+    host_answers::plain(answer)
 }
 
 // A sprite peek.
@@ -57,9 +57,9 @@ pub extern "C" fn mmc5_sprite_peek(
     exram: &[u8],
     addr: u16,
 ) -> u32
-    ensures { λ r. ⌜ r ≡ lookOn (now (words .entry)) toldPlain (λ (s : State). spritePeek s (memOf (now (prg .entry)) (now (chr .entry)) (now (ram .entry)) (now (ciram .entry)) (now (exram .entry))) addr) ⌝ }
+    ensures { λ r. ⌜ r ≡ lookOn (now (words .entry)) answerPlain (λ (s : State). spritePeek s (memOf (now (prg .entry)) (now (chr .entry)) (now (ram .entry)) (now (ciram .entry)) (now (exram .entry))) addr) ⌝ }
 {
-    let s = whole::state_of(words);
+    let s = full_state::state_of(words);
     let answer = board_ppu::peeks::sprite_peek(s, prg, chr, ram, ciram, exram, PpuAddr(addr));
-    told::plain(answer)
+    host_answers::plain(answer)
 }

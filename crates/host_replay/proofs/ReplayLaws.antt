@@ -7,7 +7,7 @@ use native.Mathlib.Omega.{arith}
 use borrow.Author.Tests.{ltb-false}
 use lib.ListN.{length}
 use Rattle.memory.specs.Bytes.{Mem}
-use Rattle.memory.specs.Words.{pick}
+use Rattle.memory.specs.Tests.{pick}
 use Rattle.memory.proofs.Tests.{split}
 use Rattle.answers.specs.declared.Refusal.{Refusal}
 use Rattle.answers.specs.declared.Refusal.the-variants.{Length}
@@ -27,25 +27,25 @@ use Rattle.player.specs.declared.Ending.the-variants.{Done, Stopped}
 use Rattle.player.specs.declared.Replayed.{Replayed}
 use Rattle.player.specs.Replay.{Left, leftOf, ended, playedFrom, replayed}
 use Rattle.player.proofs.Ways.{by-found}
-use Rattle.promises.proofs.Gates.{in-range-of}
+use Rattle.theorems_promises.proofs.Gates.{in-range-of}
 use Rattle.host_state.specs.Words.{stateOf, wordsOf}
 use Rattle.host_state.proofs.Backs.{words-back}
 use Rattle.host_replay.specs.Promise.{TakenApart, ReplayPromised}
-use Rattle.host_replay.specs.Replays.{LeftReplay, endingTold, lastOf, leftReplay, leavingReplay, replayOn}
+use Rattle.host_replay.specs.Replays.{LeftReplay, endingNumber, lastOf, leftReplay, leavingReplay, replayOn}
 
-pub too-long-stays : (w trace : List ℕ) (m : Mem) (log : List ℕ) (b : Bool) (n : ℕ) → b ≡ tooLong (length trace) → b ≡ true → n ≡ endingTold (Stopped 0 Length)
+pub too-long-stays : (w trace : List ℕ) (m : Mem) (log : List ℕ) (b : Bool) (n : ℕ) → b ≡ tooLong (length trace) → b ≡ true → n ≡ endingNumber (Stopped 0 Length)
     → leftReplay n w m log ≡ replayOn w trace m log
 unfolding replayOn
 too-long-stays w trace m log b n e t en = rw (← e, t, en)
 
 pub shut-stays : (w trace : List ℕ) (m : Mem) (log : List ℕ) (b : Bool) (k : Gate) (r : Refusal) (n : ℕ)
-    → b ≡ tooLong (length trace) → b ≡ false → k ≡ gateMem (stateOf w) m → k ≡ Shut r → n ≡ endingTold (Stopped 0 r) → leftReplay n w m log ≡ replayOn w trace m log
+    → b ≡ tooLong (length trace) → b ≡ false → k ≡ gateMem (stateOf w) m → k ≡ Shut r → n ≡ endingNumber (Stopped 0 r) → leftReplay n w m log ≡ replayOn w trace m log
 unfolding replayOn
 shut-stays w trace m log b k r n eb tb e t en = rw (← eb, tb, ← e, t, en)
 
 pub replay-left : (w v trace : List ℕ) (m m′ : Mem) (log log′ : List ℕ) (b : Bool) (k : Gate) (s : State) (o : Replayed) (n : ℕ)
     → b ≡ tooLong (length trace) → b ≡ false → k ≡ gateMem (stateOf w) m → k ≡ Open → s ≡ stateOf w → leftOf o m′ log′ ≡ replayed s trace m log → v ≡ wordsOf (o .state)
-    → n ≡ endingTold (o .ending) → leftReplay n v m′ log′ ≡ replayOn w trace m log
+    → n ≡ endingNumber (o .ending) → leftReplay n v m′ log′ ≡ replayOn w trace m log
 unfolding replayOn
 replay-left w v trace m m′ log log′ b k s o n eb tb e t es eo ev en = rw (← eb, tb, ← e, t, en, ev, ← es, ← eo)
 
@@ -89,7 +89,7 @@ apart-of (Stopped place why) h = (omega (arith, h), omega (arith, h))
 
 -- What is played from a later place on stops at a later place.
 abbrev Past : Left → Type 0
-Past l = 65536 ≤ endingTold (l .out .ending) → endingTold (l .out .ending) % 65536 ≡ 0 → ⊥
+Past l = 65536 ≤ endingNumber (l .out .ending) → endingNumber (l .out .ending) % 65536 ≡ 0 → ⊥
 
 past-stop : (at : ℕ) (why : Refusal) → 0 < at → at ≤ 8192 → 65536 ≤ 65536 * numberOf why + at → (65536 * numberOf why + at) % 65536 ≡ 0 → ⊥
 past-stop at why p h a b = omega (arith, p, h, b)
@@ -106,7 +106,7 @@ stops-past (suc k) trace at n s m log p i h short =
 
 -- A replay that stopped at place 0 left everything as it was.
 abbrev Stays : State → Mem → List ℕ → Left → Type 0
-Stays s m log l = 65536 ≤ endingTold (l .out .ending) → endingTold (l .out .ending) % 65536 ≡ 0 → l ≡ ended (l .out .ending) s m log
+Stays s m log l = 65536 ≤ endingNumber (l .out .ending) → endingNumber (l .out .ending) % 65536 ≡ 0 → l ≡ ended (l .out .ending) s m log
 
 first-stays : (k : ℕ) (trace : List ℕ) (s : State) (m : Mem) (log : List ℕ) → length trace ≤ 8192 → Stays s m log (playedFrom k trace 0 0 s m log)
 unfolding playedFrom
@@ -129,9 +129,9 @@ Same w m log h = 65536 ≤ h .number → h .number % 65536 ≡ 0 → h ≡ leftR
 hosting-same : (w trace : List ℕ) (m : Mem) (log : List ℕ) → length w ≡ 144 → inRange (stateOf w) ≡ true → Same w m log (leavingReplay (replayed (stateOf w) trace m log))
 hosting-same w trace m log e h a b =
     ap leavingReplay (replayed-stays (stateOf w) trace m log a b)
-    ∙ ap (λ (v : List ℕ). leftReplay (endingTold (replayed (stateOf w) trace m log .out .ending)) v m log) (words-back w e h)
+    ∙ ap (λ (v : List ℕ). leftReplay (endingNumber (replayed (stateOf w) trace m log .out .ending)) v m log) (words-back w e h)
 
-on-gate : (w : List ℕ) (m : Mem) (log : List ℕ) (x : LeftReplay) (g : Gate) → (g ≡ Open → Same w m log x) → Same w m log (behind g (λ (r : Refusal). leftReplay (endingTold (Stopped 0 r)) w m log) x)
+on-gate : (w : List ℕ) (m : Mem) (log : List ℕ) (x : LeftReplay) (g : Gate) → (g ≡ Open → Same w m log x) → Same w m log (behind g (λ (r : Refusal). leftReplay (endingNumber (Stopped 0 r)) w m log) x)
 on-gate w m log x Open s = s refl
 on-gate w m log x (Shut r) s = λ a b. refl
 

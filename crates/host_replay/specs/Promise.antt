@@ -7,11 +7,11 @@ use Rattle.memory.specs.Bytes.{Mem}
 use Rattle.state.specs.declared.State.{State}
 use Rattle.player.specs.declared.Ending.{Ending}
 use Rattle.player.specs.Replay.{replayed}
-use Rattle.host_replay.specs.Replays.{endingTold, lastOf, refusalIn, leftReplay, replayOn}
+use Rattle.host_replay.specs.Replays.{endingNumber, lastOf, refusalIn, leftReplay, replayOn}
 
 -- The number can be taken apart: no count and no place reaches 65,536.
 abbrev pub TakenApart : Ending → Type 0
-TakenApart e = (endingTold e / 65536 ≡ refusalIn e) × (endingTold e % 65536 ≡ lastOf e)
+TakenApart e = (endingNumber e / 65536 ≡ refusalIn e) × (endingNumber e % 65536 ≡ lastOf e)
 
 pub record ReplayPromised : Type 0 where
   pub apart : (s : State) (trace : List ℕ) (m : Mem) (log : List ℕ) → TakenApart (replayed s trace m log .out .ending)

@@ -4,7 +4,7 @@ use Prim.Native.Nat.{ℕ, _+_, _*_}
 use mathlib.Core.List.{List}
 use lib.ListN.{length}
 use Rattle.memory.specs.Bytes.{Mem}
-use Rattle.memory.specs.Words.{pick}
+use Rattle.memory.specs.Tests.{pick}
 use Rattle.answers.specs.declared.Refusal.{Refusal}
 use Rattle.answers.specs.declared.Refusal.the-variants.{Length}
 use Rattle.answers.specs.Numbers.{numberOf}
@@ -17,9 +17,9 @@ use Rattle.player.specs.Replay.{Left, replayed}
 use Rattle.host_state.specs.Words.{stateOf, wordsOf}
 
 -- "answers with that record's place, or with the record count": the count, or 65,536 times the refusal's number and the place.
-abbrev pub endingTold : Ending → ℕ
-endingTold (Done count) = count
-endingTold (Stopped place why) = 65536 * numberOf why + place
+abbrev pub endingNumber : Ending → ℕ
+endingNumber (Done count) = count
+endingNumber (Stopped place why) = 65536 * numberOf why + place
 
 -- What a replay leaves: its number, the words, the five buffers and the log.
 pub record LeftReplay : Type 0 where
@@ -32,12 +32,12 @@ abbrev pub leftReplay : ℕ → List ℕ → Mem → List ℕ → LeftReplay
 leftReplay n w m log = record { number = n; words = w; mem = m; log = log }
 
 abbrev pub leavingReplay : Left → LeftReplay
-leavingReplay x = leftReplay (endingTold (x .out .ending)) (wordsOf (x .out .state)) (x .mem) (x .log)
+leavingReplay x = leftReplay (endingNumber (x .out .ending)) (wordsOf (x .out .state)) (x .mem) (x .log)
 
 unfoldable pub replayOn : List ℕ → List ℕ → Mem → List ℕ → LeftReplay
 replayOn w trace m log =
-    pick (tooLong (length trace)) (leftReplay (endingTold (Stopped 0 Length)) w m log)
-    (behind (gateMem (stateOf w) m) (λ (r : Refusal). leftReplay (endingTold (Stopped 0 r)) w m log)
+    pick (tooLong (length trace)) (leftReplay (endingNumber (Stopped 0 Length)) w m log)
+    (behind (gateMem (stateOf w) m) (λ (r : Refusal). leftReplay (endingNumber (Stopped 0 r)) w m log)
     (leavingReplay (replayed (stateOf w) trace m log)))
 
 -- The count, or the place.

@@ -4,17 +4,17 @@ ghost use mathlib.Core.Path.{_≡_};
 ghost use Prim.Native.Nat.{_≤_};
 ghost use Rattle.memory.specs.Bytes.{memOf};
 ghost use Rattle.host_replay.specs.Promise.{ReplayPromised};
-ghost use Rattle.host_replay.specs.Replays.{endingTold, lastOf, leftReplay, replayOn};
+ghost use Rattle.host_replay.specs.Replays.{endingNumber, lastOf, leftReplay, replayOn};
 use answers::Refusal;
+use host_state::full_state;
 use host_state::gate;
-use host_state::whole;
 use player::Ending;
 use state::gate::Gate;
 
 // The count, or the refusal's number times 65,536 and the place.
-fn told(ending: Ending) -> u32
+fn ending_number(ending: Ending) -> u32
     requires { ⌜ lastOf ending ≤ 8192 ⌝ }
-    ensures { λ r. ⌜ r ≡ endingTold ending ⌝ }
+    ensures { λ r. ⌜ r ≡ endingNumber ending ⌝ }
 {
     match ending {
         Ending::Done(count) => count as u32,
@@ -39,7 +39,7 @@ pub extern "C" fn mmc5_replay(
         ≡ replayOn (now (words .entry)) (now (trace .entry)) (memOf (now (prg .entry)) (now (chr .entry)) (now (ram .entry)) (now (ciram .entry)) (now (exram .entry))) (now (log .entry)) ⌝ }
 {
     if trace::too_long(trace.len()) {
-        return told(Ending::Stopped(0, Refusal::Length));
+        return ending_number(Ending::Stopped(0, Refusal::Length));
     }
     let gate = gate::passed(
         words,
@@ -50,14 +50,14 @@ pub extern "C" fn mmc5_replay(
         exram.len(),
     );
     if let Gate::Shut(refusal) = gate {
-        return told(Ending::Stopped(0, refusal));
+        return ending_number(Ending::Stopped(0, refusal));
     }
-    let s = whole::state_of(words);
+    let s = full_state::state_of(words);
     let o = player::replay(s, trace, prg, chr, ram, ciram, exram, log);
     let ending = o.ending;
     let t = o.state;
-    whole::put_state(t, words);
-    told(ending)
+    full_state::put_state(t, words);
+    ending_number(ending)
 }
 
 // No code: its contract holds that the number can be taken apart, and that a replay refused at place 0 changes nothing.

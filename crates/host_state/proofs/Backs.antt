@@ -7,7 +7,9 @@ use native.Mathlib.Omega.{arith}
 use lib.Dec.{eqb}
 use lib.ListN.{length, getD, take, drop, length-drop, take-append-drop, List·getD-map}
 use lib.Seq.{take-all, drop-drop}
-use Rattle.memory.specs.Words.{pick, asBit, word}
+use Rattle.memory.specs.Bits.{asBit}
+use Rattle.memory.specs.Tests.{pick}
+use Rattle.memory.specs.PageWords.{word}
 use Rattle.memory.specs.declared.PageWord.{PageWord}
 use Rattle.state.specs.declared.State.{State}
 use Rattle.state.specs.Ranges.{inRange}

@@ -9,7 +9,9 @@ use lib.Dec.{eqb, leb}
 use lib.ListN.{length, getD, take, drop, length-map}
 use lib.Seq.{take-all, take-at, drop-at}
 use Rattle.memory.specs.declared.PageWord.{PageWord}
-use Rattle.memory.specs.Words.{pick, asBit, word}
+use Rattle.memory.specs.Bits.{asBit}
+use Rattle.memory.specs.Tests.{pick}
+use Rattle.memory.specs.PageWords.{word}
 use Rattle.memory.proofs.Tests.{conj-at, and-left, and-right}
 use Rattle.registers.specs.declared.Mirroring.{Mirroring}
 use Rattle.registers.specs.declared.Mirroring.the-variants.{Horizontal, Vertical, SingleScreenA, SingleScreenB, FourScreen}

@@ -4,7 +4,7 @@ use mathlib.Core.Bool.{Bool, true, false, not, _&&_}
 use mathlib.Core.List.{List}
 use mathlib.Core.Path.{_≡_, refl, sym, ap, _∙_}
 use borrow.Author.Tests.{not-false, not-true}
-use Rattle.memory.specs.Words.{pick}
+use Rattle.memory.specs.Tests.{pick}
 use Rattle.memory.specs.Tables.{prgTableOk, chrTableOk}
 use Rattle.memory.proofs.Tests.{and-left, and-right, and-true}
 use Rattle.answers.specs.declared.Refusal.the-variants.{Buffers, State as StateBroken}

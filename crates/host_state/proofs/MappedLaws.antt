@@ -10,8 +10,8 @@ use lib.Dec.{ltb}
 use lib.ListN.{length, take, getD, set, length-set, length-map, List·getD-map}
 use lib.Seq.{take-suc, take-all, take-suc-set}
 use Rattle.memory.specs.declared.PageWord.{PageWord}
-use Rattle.memory.specs.Tables.{all}
-use Rattle.memory.specs.Words.{pick, word}
+use Rattle.memory.specs.Tests.{all, pick}
+use Rattle.memory.specs.PageWords.{word}
 use Rattle.memory.proofs.TableLaws.{Tested, test-next, test-last}
 use Rattle.memory.proofs.Tests.{split, and-false}
 

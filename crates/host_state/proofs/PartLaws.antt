@@ -10,8 +10,9 @@ use lib.Dec.{ltb}
 use lib.ListN.{length, take, drop, getD, set, length-drop, length-map, List·getD-map}
 use lib.Seq.{length-take-le, getD-take, getD-drop, paste, paste-zero, paste-suc}
 use Rattle.memory.specs.declared.PageWord.{PageWord}
-use Rattle.memory.specs.Tables.{all, prgShows, prgTableOk}
-use Rattle.memory.specs.Words.{pick, word, pageOf, prgPlace, prgPlaces}
+use Rattle.memory.specs.Tables.{prgMayHold, prgTableOk}
+use Rattle.memory.specs.Tests.{all, pick}
+use Rattle.memory.specs.PageWords.{word, pageOf, prgPlace, prgPlaces}
 use Rattle.memory.proofs.TableLaws.{Tested, test-first, prg-run}
 use Rattle.host_state.specs.Words.{pageNumber, numbersOf, pagesOf, prgNumbers}
 use Rattle.host_state.proofs.MappedLaws.{Mapped, map-first, map-next, map-last, numbers-next, numbers-last, larger-test}
@@ -93,7 +94,7 @@ ask-last f w from n ok i t h = numbers-last f (take n (drop from w)) ok i n (t .
 
 -- The furthest place of a PRG table's words: it lies in the run just where every word's does.
 abbrev shows : ℕ → ℕ → PageWord → Bool
-shows prg ram x = prgShows prg ram (pageOf x)
+shows prg ram x = prgMayHold prg ram (pageOf x)
 
 abbrev pub Furthest : ℕ → ℕ → List ℕ → ℕ → ℕ → Type 0
 Furthest prg ram w top i = Asking (shows prg ram) w 64 64 (ltb top (prgPlaces prg ram)) i

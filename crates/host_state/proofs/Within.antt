@@ -8,7 +8,7 @@ use borrow.Author.Tests.{le-leb, eq-eqb}
 use lib.Dec.{leb, eqb}
 use lib.ListN.{length, getD}
 use Rattle.memory.specs.Tables.{prgTableOk, chrTableOk}
-use Rattle.memory.specs.Words.{pick}
+use Rattle.memory.specs.Tests.{pick}
 use Rattle.memory.proofs.Tests.{split, and-false}
 use Rattle.registers.specs.Registers.{regsOk}
 use Rattle.scanline.specs.Ranges.{detectorOk}

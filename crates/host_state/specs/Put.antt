@@ -5,7 +5,7 @@ use mathlib.Core.List.{List}
 use lib.ListN.{set}
 use lib.Seq.{paste}
 use Rattle.memory.specs.declared.PageWord.{PageWord}
-use Rattle.memory.specs.Words.{asBit}
+use Rattle.memory.specs.Bits.{asBit}
 use Rattle.registers.specs.declared.Mirroring.{Mirroring}
 use Rattle.registers.specs.declared.Regs.{Regs}
 use Rattle.scanline.specs.declared.Detector.{Detector}

@@ -8,7 +8,9 @@ use lib.Dec.{eqb, leb}
 use lib.ListN.{getD, take, drop}
 use Rattle.memory.specs.declared.PageWord.{PageWord}
 use Rattle.memory.specs.declared.PpuAddr.{PpuAddr}
-use Rattle.memory.specs.Words.{pick, asBit, word}
+use Rattle.memory.specs.Bits.{asBit}
+use Rattle.memory.specs.Tests.{pick}
+use Rattle.memory.specs.PageWords.{word}
 use Rattle.registers.specs.declared.Mirroring.{Mirroring}
 use Rattle.registers.specs.declared.Mirroring.the-variants.{Horizontal, Vertical, SingleScreenA, SingleScreenB, FourScreen}
 use Rattle.registers.specs.declared.Regs.{Regs}

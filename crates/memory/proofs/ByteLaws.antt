@@ -12,7 +12,7 @@ use Rattle.memory.specs.declared.PageWord.{PageWord}
 use Rattle.memory.specs.declared.Place.{Place}
 use Rattle.memory.specs.declared.Src.{Src}
 use Rattle.memory.specs.declared.Src.the-variants.{Blank, PrgRom, PrgRam, Chr, CiRam, ExRam}
-use Rattle.memory.specs.Words.{pageOf}
+use Rattle.memory.specs.PageWords.{pageOf}
 use Rattle.memory.specs.Bytes.{Mem, offsetOf, placeOf, pageStored}
 use Rattle.memory.proofs.WordLaws.{by-runs}
 

@@ -11,8 +11,9 @@ use lib.ListN.{length, take, getD, set}
 use lib.Seq.{take-suc, take-all}
 use Rattle.memory.specs.declared.Page.{Page}
 use Rattle.memory.specs.declared.PageWord.{PageWord}
-use Rattle.memory.specs.Words.{pick, pageOf, prgPlace, prgPlaces}
-use Rattle.memory.specs.Tables.{wholePage, prgShows, prgShowsAs, chrShows, chrShowsAs, all}
+use Rattle.memory.specs.PageWords.{pageOf, prgPlace, prgPlaces}
+use Rattle.memory.specs.Tests.{pick, all}
+use Rattle.memory.specs.Tables.{wholePage, prgMayHold, prgMayHoldAs, chrMayHold, chrMayHoldAs}
 use Rattle.memory.proofs.Tests.{split, or-false, and-true, and-false, lt-is-le, le-is-le}
 use Rattle.memory.proofs.WordLaws.{by-runs}
 
@@ -26,13 +27,13 @@ turned n below above hn hb ha =
 
 -- The words of a PRG table.
 prg-runs : (prg ram : ℕ) (w : PageWord) → prg ≤ 1048576 → ram ≤ 65536 → w .0 < 65536
-    → ltb (w .0) (3 + prg / 1024) || ltb (65535 - w .0) (2 * (ram / 1024)) ≡ prgShows prg ram (pageOf w)
-unfolding prgShowsAs
+    → ltb (w .0) (3 + prg / 1024) || ltb (65535 - w .0) (2 * (ram / 1024)) ≡ prgMayHold prg ram (pageOf w)
+unfolding prgMayHoldAs
 prg-runs prg ram w hp hr hw =
     let n = w .0 in
     let below = ltb n (3 + prg / 1024) in
     let above = ltb (65535 - n) (2 * (ram / 1024)) in
-    by-runs (λ (p : Page). below || above ≡ prgShows prg ram p) w
+    by-runs (λ (p : Page). below || above ≡ prgMayHold prg ram p) w
     (λ h. rw (lt-ltb n (3 + prg / 1024) (omega arith)))
     (λ g h. rw (lt-ltb n (3 + prg / 1024) (omega arith)))
     (λ g h. rw (le-ltb (65535 - n) (2 * (ram / 1024)) (omega arith), or-false, and-true) (lt-is-le n (3 + prg / 1024) ((n - 3) * 1024 + 1024) prg (λ k. omega arith) (λ k. omega arith)))
@@ -42,20 +43,20 @@ prg-runs prg ram w hp hr hw =
     (λ g. rw (le-ltb n (3 + prg / 1024) (omega arith)) (lt-is-le (65535 - n) (2 * (ram / 1024)) ((65535 - n) / 2 * 1024 + 1024) ram (λ k. omega arith) (λ k. omega arith)))
 
 pub prg-run : (prg ram : ℕ) (w : PageWord) → prg ≤ 1048576 → ram ≤ 65536 → w .0 < 65536
-    → ltb (prgPlace ram w) (prgPlaces prg ram) ≡ prgShows prg ram (pageOf w)
+    → ltb (prgPlace ram w) (prgPlaces prg ram) ≡ prgMayHold prg ram (pageOf w)
 prg-run prg ram w hp hr hw = turned (w .0) (2 * (ram / 1024)) (3 + prg / 1024) hw (omega arith) (omega arith) ∙ prg-runs prg ram w hp hr hw
 
 -- The words of a CHR table; `low` is the number of pages that may be marked writable.
 chr-run : (chr low : ℕ) (asRam : Bool) (w : PageWord) → chr ≤ 1048576 → w .0 < 65536
     → ((1027 ≤ w .0) → (w .0 < 2051) → leb (2051 - low) (w .0) ≡ wholePage (2050 - w .0) chr && asRam) → low ≤ 1024
-    → ltb (w .0) 3 || (leb (2051 - low) (w .0) && ltb (w .0) (2055 + chr / 1024)) ≡ chrShows chr asRam (pageOf w)
-unfolding chrShowsAs
+    → ltb (w .0) 3 || (leb (2051 - low) (w .0) && ltb (w .0) (2055 + chr / 1024)) ≡ chrMayHold chr asRam (pageOf w)
+unfolding chrMayHoldAs
 chr-run chr low asRam w hc hw marked hl =
     let n = w .0 in
     let near = ltb n 3 in
     let from = leb (2051 - low) n in
     let to = ltb n (2055 + chr / 1024) in
-    by-runs (λ (p : Page). near || (from && to) ≡ chrShows chr asRam p) w
+    by-runs (λ (p : Page). near || (from && to) ≡ chrMayHold chr asRam p) w
     (λ h. rw (lt-ltb n 3 (omega arith)))
     (λ g h. rw (lt-ltb n 3 (omega arith)))
     (λ g h. rw (le-ltb n 3 (omega arith), lt-leb (2051 - low) n (omega arith)))
@@ -69,7 +70,7 @@ low-small true h = omega arith
 low-small false h = omega arith
 
 pub chr-runs : (chr : ℕ) (asRam : Bool) (w : PageWord) → chr ≤ 1048576 → w .0 < 65536
-    → ltb (w .0) 3 || (leb (2051 - pick asRam (chr / 1024) 0) (w .0) && ltb (w .0) (2055 + chr / 1024)) ≡ chrShows chr asRam (pageOf w)
+    → ltb (w .0) 3 || (leb (2051 - pick asRam (chr / 1024) 0) (w .0) && ltb (w .0) (2055 + chr / 1024)) ≡ chrMayHold chr asRam (pageOf w)
 chr-runs chr true w hc hw =
     chr-run chr (chr / 1024) true w hc hw
     (λ g h. rw and-true (le-is-le (2051 - chr / 1024) (w .0) ((2050 - w .0) * 1024 + 1024) chr (λ k. omega arith) (λ k. omega arith)))

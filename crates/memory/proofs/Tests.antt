@@ -6,8 +6,7 @@ use mathlib.Core.Path.{_≡_, refl, sym, _∙_}
 use borrow.Author.Tests.{ltb-true, leb-true, lt-ltb, le-leb}
 use lib.Dec.{ltb, leb}
 use lib.ListN.{getD}
-use Rattle.memory.specs.Tests.{conj}
-use Rattle.memory.specs.Words.{pick}
+use Rattle.memory.specs.Tests.{conj, pick}
 
 pub split : {A : Type 0} (b : Bool) → (b ≡ true → A) → (b ≡ false → A) → A
 split true f g = f refl

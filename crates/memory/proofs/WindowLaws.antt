@@ -12,7 +12,8 @@ use lib.Dec.{leb, ltb}
 use lib.ListN.{set, replicate}
 use Rattle.memory.specs.declared.PageWord.{PageWord}
 use Rattle.memory.specs.declared.Src.{Src}
-use Rattle.memory.specs.Words.{pick, word, page, wordOf}
+use Rattle.memory.specs.Tests.{pick}
+use Rattle.memory.specs.PageWords.{word, page, wordOf}
 use Rattle.memory.specs.Windows.{banks, windowStart, pageStart, following, windowPage, windowWord, prgWindow}
 use Rattle.memory.proofs.Tests.{split}
 

@@ -1,6 +1,6 @@
 -- 01's words for bits, so that its formulas stand here as they stand there.
 use Prim.Native.Nat.{ℕ, _*_, _/_, _%_, _^_}
-use mathlib.Core.Bool.{Bool}
+use mathlib.Core.Bool.{Bool, true, false}
 use lib.Bits.{bitAnd, bitOr}
 use lib.Dec.{eqb}
 
@@ -21,3 +21,8 @@ a >> k = a / 2 ^ k
 -- bit k of a number is set
 abbrev pub bitSet : ℕ → ℕ → Bool
 bitSet a k = eqb ((a >> k) % 2) 1
+
+-- a test as a bit
+abbrev pub asBit : Bool → ℕ
+asBit true = 1
+asBit false = 0

@@ -7,7 +7,7 @@ use Rattle.memory.specs.declared.Page.{Page}
 use Rattle.memory.specs.declared.Place.{Place}
 use Rattle.memory.specs.declared.Src.{Src}
 use Rattle.memory.specs.declared.Src.the-variants.{Blank, PrgRom, PrgRam, Chr, CiRam, ExRam}
-use Rattle.memory.specs.Words.{pick}
+use Rattle.memory.specs.Tests.{pick}
 
 -- 01, "What must change shape": "One boxed `data` with ranges: separate buffers."
 pub record Mem : Type 0 where

@@ -3,8 +3,8 @@ use Prim.Native.Nat.{ℕ}
 use mathlib.Core.Bool.{Bool}
 use mathlib.Core.List.{List}
 use lib.Dec.{eqb}
-use Rattle.memory.specs.Words.{asBit}
-use Rattle.memory.specs.Tables.{all}
+use Rattle.memory.specs.Tests.{all}
+use Rattle.memory.specs.Bits.{asBit}
 
 pub record Case : Type 0 where
   pub gives : ℕ

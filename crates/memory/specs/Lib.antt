@@ -1,4 +1,4 @@
-pub mod Words
+pub mod PageWords
 pub mod Bytes
 pub mod Windows
 pub mod Tables

@@ -7,7 +7,8 @@ use lib.Dec.{eqb, ltb}
 use Rattle.memory.specs.declared.Page.{Page}
 use Rattle.memory.specs.declared.PageWord.{PageWord}
 use Rattle.memory.specs.declared.Src.{Src}
-use Rattle.memory.specs.Words.{pick, page, blank, wordOf}
+use Rattle.memory.specs.Tests.{pick}
+use Rattle.memory.specs.PageWords.{page, blank, wordOf}
 
 -- "banks = max(1, length / 8,192)"
 abbrev pub banks : ℕ → ℕ → ℕ

@@ -4,12 +4,12 @@ ghost use mathlib.Core.Path.{_≡_};
 ghost use mathlib.Core.List.{List};
 ghost use Prim.Native.Nat.{ℕ};
 ghost use lib.ListN.{getD, set};
-ghost use Rattle.memory.specs.Words.{pageOf};
+ghost use Rattle.memory.specs.PageWords.{pageOf};
 ghost use Rattle.memory.specs.Bytes.{memOf, byteAt, storedAt, pageStored};
 use crate::PageWord;
 use crate::Place;
 use crate::Src;
-use crate::words;
+use crate::page_words;
 
 // The byte of a buffer, 0 past its end.
 pub fn byte(buffer: &[u8], offset: usize) -> u8
@@ -84,10 +84,10 @@ pub fn store(
     ensures { λ _. ⌜ ((prg : List ℕ) → memOf prg (now (chr .exit)) (now (ram .exit)) (now (ciram .exit)) (now (exram .exit))
         ≡ pageStored (memOf prg (now (chr .entry)) (now (ram .entry)) (now (ciram .entry)) (now (exram .entry))) (pageOf word) offset val) ⌝ }
 {
-    let page = words::page_of(word);
+    let page = page_words::page_of(word);
     let open = page.writable;
     if open {
-        let place = words::place_of(word, offset);
+        let place = page_words::place_of(word, offset);
         store_at(chr, ram, ciram, exram, place, val);
     }
 }

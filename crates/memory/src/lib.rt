@@ -3,9 +3,9 @@
 ghost use Rattle.memory.specs.Promise.{Pages};
 
 pub mod bytes;
+pub mod page_words;
 pub mod tables;
 pub mod windows;
-pub mod words;
 
 // Which buffer a page shows, or none: the Rust's `Src`, with blank beside the five.
 pub enum Src {

@@ -1,8 +1,9 @@
 // The two page tables, and whether each of their words is one that the table may hold (01, "STATE ranges").
 ghost use mathlib.Core.Path.{_≡_};
 ghost use Prim.Native.Nat.{_<_, _≤_};
-ghost use Rattle.memory.specs.Words.{pick, pageOf, prgPlace, prgPlaces};
-ghost use Rattle.memory.specs.Tables.{prgShows, chrShows, prgTableOk, chrTableOk};
+ghost use Rattle.memory.specs.Tests.{pick};
+ghost use Rattle.memory.specs.PageWords.{pageOf, prgPlace, prgPlaces};
+ghost use Rattle.memory.specs.Tables.{prgMayHold, chrMayHold, prgTableOk, chrTableOk};
 use crate::PageWord;
 
 // The words that a PRG table may hold are one run around blank: PRG-RAM below it, ExRAM and PRG-ROM above. A word's place in that run;
@@ -25,7 +26,7 @@ pub fn prg_places(prg_len: u32, ram_len: u32) -> u16
 
 fn prg_word_ok(prg_len: u32, ram_len: u32, word: PageWord) -> bool
     requires { ⌜ («prg_len» ≤ 1048576) × («ram_len» ≤ 65536) ⌝ }
-    ensures { λ r. ⌜ r ≡ prgShows «prg_len» «ram_len» (pageOf word) ⌝ }
+    ensures { λ r. ⌜ r ≡ prgMayHold «prg_len» «ram_len» (pageOf word) ⌝ }
 {
     prg_place(ram_len, word) < prg_places(prg_len, ram_len)
 }
@@ -40,7 +41,7 @@ fn if_so(so: bool, count: u16) -> u16
 // Blank and ExRAM, and one run of words around CIRAM: CHR marked writable below it, CHR not so marked above.
 pub fn chr_word_ok(chr_len: u32, chr_writable: bool, word: PageWord) -> bool
     requires { ⌜ «chr_len» ≤ 1048576 ⌝ }
-    ensures { λ r. ⌜ r ≡ chrShows «chr_len» «chr_writable» (pageOf word) ⌝ }
+    ensures { λ r. ⌜ r ≡ chrMayHold «chr_len» «chr_writable» (pageOf word) ⌝ }
 {
     let n = word.0;
     let pages = (chr_len / 1024) as u16;

@@ -4,7 +4,7 @@ ghost use Prim.Native.Nat.{_+_, _*_, _/_, _%_, _<_, _≤_};
 ghost use Rattle.memory.specs.Windows.{banks, pageStart, following, prgWindow, chrWindow};
 use crate::PageWord;
 use crate::Src;
-use crate::words;
+use crate::page_words;
 
 // How many banks of a window's size a buffer has: one at least.
 fn banks_of(len: u32, size: u32) -> u32
@@ -48,7 +48,7 @@ pub fn prg_window(src: Src, len: u32, bank: u32, writable: bool) -> [PageWord; 8
     let mut at = first_start(len, 8192, bank);
     let mut i: usize = 0;
     while i < 8 {
-        let w = words::word_of(src, at / 1024, writable);
+        let w = page_words::word_of(src, at / 1024, writable);
         pages[i] = w;
         at = next_start(len, at);
         i += 1;
@@ -64,5 +64,5 @@ pub fn chr_window(src: Src, len: u32, number: u32, writable: bool) -> PageWord
         return PageWord(0);
     }
     let at = first_start(len, 1024, number);
-    words::word_of(src, at / 1024, writable)
+    page_words::word_of(src, at / 1024, writable)
 }

@@ -7,7 +7,8 @@ use lib.Dec.{ltb}
 use Rattle.memory.specs.declared.CpuAddr.{CpuAddr}
 use Rattle.memory.specs.declared.PpuAddr.{PpuAddr}
 use Rattle.memory.specs.Bytes.{Mem, memOf, pageStored}
-use Rattle.memory.specs.Words.{pick, pageOf}
+use Rattle.memory.specs.Tests.{pick}
+use Rattle.memory.specs.PageWords.{pageOf}
 use Rattle.answers.specs.declared.Answer.{Answer}
 use Rattle.answers.specs.declared.Answer.the-variants.{Nothing}
 use Rattle.answers.specs.declared.Refusal.the-variants.{Audio, Counter}
@@ -33,9 +34,9 @@ use Rattle.trace.specs.declared.Call.{Call}
 use Rattle.trace.specs.declared.Call.the-variants.{Clock, CpuRead, CpuWrite, PpuRegister, PpuFetch, Reset, PpuWrite}
 use Rattle.trace.specs.declared.Found.the-variants.{Record}
 use Rattle.trace.specs.Records.{recordAt}
-use Rattle.promises.proofs.Gates.{in-range-of}
-use Rattle.promises.proofs.Promised.{who-is-refused}
-use Rattle.promises.proofs.Refusals.{answer-is-given}
+use Rattle.theorems_promises.proofs.Gates.{in-range-of}
+use Rattle.theorems_promises.proofs.Promised.{who-is-refused}
+use Rattle.theorems_promises.proofs.Refusals.{answer-is-given}
 use Rattle.player.specs.declared.Ending.the-variants.{Stopped}
 use Rattle.logs.specs.Logs.{logged}
 use Rattle.player.specs.Replay.{Left, ended}

@@ -28,9 +28,9 @@ use Rattle.trace.specs.declared.Found.the-variants.{End, Record, Refused as Unr
 use Rattle.trace.specs.Records.{recordAt}
 use Rattle.trace.proofs.RecordLaws.{record-sound}
 use Rattle.calls.specs.Called.{called}
-use Rattle.promises.proofs.Gates.{SameSizes, same, page-stored-sizes, cpu-stored-sizes}
-use Rattle.promises.proofs.Promised.{gate-stays-open}
-use Rattle.promises.proofs.Refusals.{Given}
+use Rattle.theorems_promises.proofs.Gates.{SameSizes, same, page-stored-sizes, cpu-stored-sizes}
+use Rattle.theorems_promises.proofs.Promised.{gate-stays-open}
+use Rattle.theorems_promises.proofs.Refusals.{Given}
 use Rattle.player.specs.declared.Ending.the-variants.{Done, Stopped}
 use Rattle.logs.specs.Logs.{logLetter, logged}
 use Rattle.player.specs.Replay.{Left, ended, playedFrom, played}

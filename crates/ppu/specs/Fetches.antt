@@ -3,7 +3,7 @@
 -- equals zero the tile count); split; answer."
 use Prim.Native.Nat.{ℕ, _%_}
 use mathlib.Core.Bool.{_&&_, not}
-use Rattle.memory.specs.Words.{pick}
+use Rattle.memory.specs.Tests.{pick}
 use Rattle.registers.specs.declared.Regs.{Regs}
 use Rattle.registers.specs.Registers.{attributeUse, nametableUse}
 use Rattle.scanline.specs.declared.Detector.{Detector}

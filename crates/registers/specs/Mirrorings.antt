@@ -2,7 +2,7 @@
 -- four nametables, D C B A; what is neither horizontal, vertical nor one screen of CIRAM is four screens.
 use Prim.Native.Nat.{ℕ}
 use lib.Dec.{eqb}
-use Rattle.memory.specs.Words.{pick}
+use Rattle.memory.specs.Tests.{pick}
 use Rattle.registers.specs.declared.Mirroring.{Mirroring}
 use Rattle.registers.specs.declared.Mirroring.the-variants.{Horizontal, Vertical, SingleScreenA, SingleScreenB, FourScreen}
 

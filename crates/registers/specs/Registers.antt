@@ -3,8 +3,7 @@ use Prim.Native.Nat.{ℕ, _*_, _%_}
 use mathlib.Core.Bool.{Bool, true, false, _&&_}
 use mathlib.Core.List.{List, [], _∷_}
 use lib.Dec.{eqb, leb}
-use Rattle.memory.specs.Tests.{conj}
-use Rattle.memory.specs.Words.{pick}
+use Rattle.memory.specs.Tests.{conj, pick}
 use Rattle.registers.specs.declared.Regs.{Regs}
 
 -- Load gives "multiplier 255 x 255, fill tile 255, fill attribute 3, modes 8k and 1k, all else 0, off". PRG mode 3 is 8k, CHR mode 3 is 1k.

@@ -1,7 +1,7 @@
 // The small registers: modes, protection, ExRAM's mode, nametable selectors, fill, the upper CHR bits, the multiplier, and mirroring.
 // 01, module 3, and their part of module 9; in the Rust, `Regs` and its arms of `write_register`.
 ghost use mathlib.Core.Path.{_≡_};
-ghost use Rattle.memory.specs.Words.{pick};
+ghost use Rattle.memory.specs.Tests.{pick};
 ghost use Rattle.registers.specs.Registers.{regsAtLoad, resetRegs, written, attributeUse, nametableUse, unlocked, regsOk};
 ghost use Rattle.registers.specs.Mirrorings.{mirroringOf, mirroringAfter};
 use memory::CpuAddr;

@@ -6,7 +6,7 @@ use native.Mathlib.Omega.{arith}
 use borrow.Author.Tests.{ltb-true, lt-ltb, le-leb, eq-eqb, ne-eqb}
 use lib.Dec.{eqb, leb, ltb}
 use Rattle.memory.specs.Bits.{bitSet}
-use Rattle.memory.specs.Words.{pick}
+use Rattle.memory.specs.Tests.{pick}
 use Rattle.memory.proofs.Tests.{same-test, split, and-false}
 use Rattle.scanline.specs.declared.Detector.{Detector}
 use Rattle.scanline.specs.Tiles.{columnOf}

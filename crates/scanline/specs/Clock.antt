@@ -6,7 +6,7 @@ use mathlib.Core.Bool.{Bool, false, _&&_, not}
 use lib.Dec.{leb, eqb}
 use Rattle.answers.specs.declared.Answer.the-variants.{Nothing, Refused}
 use Rattle.answers.specs.declared.Refusal.the-variants.{State}
-use Rattle.memory.specs.Words.{pick}
+use Rattle.memory.specs.Tests.{pick}
 use Rattle.scanline.specs.declared.Detector.{Detector}
 use Rattle.scanline.specs.declared.record.ClockRecord.{ClockRecord}
 use Rattle.scanline.specs.declared.record.ClockOutcome.{ClockOutcome}

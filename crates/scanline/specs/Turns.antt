@@ -1,5 +1,5 @@
 -- CR 7, the tile count turns over: the fold keeps of a full count what the board looks at. A full count is 01's, a number without an end.
--- Proved in proofs/FoldLaws.antt, and pinned by the contract of `promises`. That the board is then the same: crate `folds`.
+-- Proved in proofs/FoldLaws.antt, and pinned by the contract of `promises`. That the board is then the same: crate `theorems_folds`.
 use Prim.Native.Nat.{ℕ, _+_, _-_, _%_, _≤_}
 use mathlib.Core.Path.{_≡_}
 use mathlib.Core.Logic.{_↔_}

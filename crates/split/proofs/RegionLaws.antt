@@ -6,7 +6,7 @@ use native.Mathlib.Omega.{arith}
 use borrow.Author.Tests.{ltb-true, ltb-false, lt-ltb, ne-eqb}
 use lib.Bits.{and-high, or-add-and, or-shifted}
 use lib.Dec.{eqb, ltb}
-use Rattle.memory.specs.Words.{pick}
+use Rattle.memory.specs.Tests.{pick}
 use Rattle.memory.proofs.Tests.{split}
 use Rattle.split.specs.declared.VSplit.{VSplit}
 use Rattle.memory.specs.Bits.{_AND_, _OR_, _<<_}

@@ -3,7 +3,7 @@ use Prim.Native.Nat.{ℕ}
 use mathlib.Core.Bool.{Bool, true, false}
 use mathlib.Core.List.{List, [], _∷_}
 use mathlib.Core.Path.{_≡_}
-use Rattle.memory.specs.Words.{asBit}
+use Rattle.memory.specs.Bits.{asBit}
 use Rattle.memory.specs.Cases.{Case, is, right}
 use Rattle.split.specs.declared.VSplit.{VSplit}
 use Rattle.split.specs.Control.{afterLoad, withControl}

@@ -3,9 +3,9 @@
 use Prim.Native.Nat.{ℕ, _+_, _%_}
 use mathlib.Core.Bool.{Bool, false, _&&_, not}
 use lib.Dec.{eqb, ltb}
-use Rattle.memory.specs.Words.{pick, asBit}
+use Rattle.memory.specs.Tests.{pick}
 use Rattle.split.specs.declared.VSplit.{VSplit}
-use Rattle.memory.specs.Bits.{_AND_, _OR_, _<<_}
+use Rattle.memory.specs.Bits.{_AND_, _OR_, _<<_, asBit}
 
 -- 01, module 8: "Scroll = (line, + 1 if tile is 40 or more, + $5201) mod 240."
 abbrev pub scrollOf : ℕ → Bool → ℕ → ℕ

@@ -6,8 +6,7 @@ use mathlib.Core.List.{[], _∷_}
 use lib.Dec.{eqb}
 use lib.ListN.{length}
 use Rattle.memory.specs.Bytes.{Mem}
-use Rattle.memory.specs.Tests.{conj}
-use Rattle.memory.specs.Words.{pick}
+use Rattle.memory.specs.Tests.{conj, pick}
 use Rattle.answers.specs.declared.Refusal.the-variants.{Buffers, State as StateBroken}
 use Rattle.state.specs.declared.gate.Gate.{Gate}
 use Rattle.state.specs.declared.gate.Gate.the-variants.{Open, Shut}

@@ -10,7 +10,7 @@ use lib.Dec.{eqb, leb, ltb}
 use lib.ListN.{getD, set}
 use lib.Seq.{set-getD, getD-set-other}
 use Rattle.memory.specs.declared.PageWord.{PageWord}
-use Rattle.memory.specs.Words.{word}
+use Rattle.memory.specs.PageWords.{word}
 use Rattle.memory.proofs.Tests.{split, pick-keeps, and-left, and-right, and-both}
 use Rattle.answers.specs.declared.Answer.{Answer}
 use Rattle.registers.specs.declared.Mirroring.{Mirroring}

@@ -3,7 +3,7 @@ use Prim.Native.Nat.{ℕ}
 use mathlib.Core.Bool.{Bool}
 use lib.Dec.{eqb, ltb}
 use Rattle.memory.specs.declared.PageWord.{PageWord}
-use Rattle.memory.specs.Words.{pick}
+use Rattle.memory.specs.Tests.{pick}
 use Rattle.banks.specs.Prg.{exramPage}
 use Rattle.cpu.specs.Chosen.{chosen}
 use Rattle.state.specs.declared.PpuStatus.{PpuStatus}

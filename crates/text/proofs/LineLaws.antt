@@ -4,7 +4,8 @@ use mathlib.Core.Bool.{Bool, true, false}
 use mathlib.Core.List.{List, [], _∷_, _++_}
 use mathlib.Core.Path.{_≡_, refl, sym, ap, _∙_}
 use lib.Seq.{append-snoc}
-use Rattle.memory.specs.Words.{pick, asBit}
+use Rattle.memory.specs.Bits.{asBit}
+use Rattle.memory.specs.Tests.{pick}
 use Rattle.memory.proofs.Tests.{split}
 use Rattle.answers.specs.declared.Answer.{Answer}
 use Rattle.answers.specs.declared.Answer.the-variants.{Nothing, Register, Served, Page, Blank, Refused}

@@ -3,7 +3,8 @@ use Prim.Native.Nat.{ℕ, _/_, _%_}
 use mathlib.Core.Bool.{Bool, _||_}
 use mathlib.Core.List.{List, [], _∷_, _++_}
 use lib.Dec.{eqb}
-use Rattle.memory.specs.Words.{pick, asBit}
+use Rattle.memory.specs.Bits.{asBit}
+use Rattle.memory.specs.Tests.{pick}
 use Rattle.answers.specs.declared.Answer.{Answer}
 use Rattle.answers.specs.declared.Refusal.{Refusal}
 use Rattle.answers.specs.declared.Refusal.the-variants.{Length}
@@ -11,18 +12,18 @@ use Rattle.answers.specs.Letters.{letterOf, hasValue, valueOf}
 use Rattle.answers.specs.Numbers.{numberOf}
 use Rattle.text.specs.Digits.{digits}
 
--- A line: words with a space after each, then the last word and the newline.
+-- A line: pieces with a space after each, then the last piece and the newline.
 unfoldable pub line : List (List ℕ) → List ℕ → List ℕ
 line [] last = last ++ (10 ∷ [])
-line (word ∷ words) last = word ++ (32 ∷ line words last)
+line (piece ∷ pieces) last = piece ++ (32 ∷ line pieces last)
 
 -- "Answers: `-` none, `R` register, `S` served, `M` page, each with a value, or `B` blank." The letter, and the value where there is one.
-abbrev pub answerWords : ℕ → Bool → ℕ → List (List ℕ)
-answerWords letter has value = (letter ∷ []) ∷ pick has (digits value ∷ []) []
+abbrev pub answerPieces : ℕ → Bool → ℕ → List (List ℕ)
+answerPieces letter has value = (letter ∷ []) ∷ pick has (digits value ∷ []) []
 
 -- "One line per record: record number, kind, answer, interrupt 0 or 1."
 abbrev pub acceptedLine : ℕ → ℕ → Answer → Bool → List ℕ
-acceptedLine number kind a up = line (digits number ∷ digits kind ∷ answerWords (letterOf a) (hasValue a) (valueOf a)) (digits (asBit up))
+acceptedLine number kind a up = line (digits number ∷ digits kind ∷ answerPieces (letterOf a) (hasValue a) (valueOf a)) (digits (asBit up))
 
 -- "A refused call prints number, kind, `!`, refusal"
 abbrev pub refusedLine : ℕ → ℕ → Refusal → List ℕ
@@ -48,4 +49,4 @@ valued letter = eqb letter 0x52 || (eqb letter 0x53 || eqb letter 0x4D)
 -- pair it is `acceptedLine` (specs/Promise.antt, `logged`).
 abbrev pub loggedLine : ℕ → ℕ → ℕ → ℕ → List ℕ
 loggedLine number kind first second =
-    line (digits number ∷ digits kind ∷ answerWords (first % 128) (valued (first % 128)) second) (digits (first / 128))
+    line (digits number ∷ digits kind ∷ answerPieces (first % 128) (valued (first % 128)) second) (digits (first / 128))

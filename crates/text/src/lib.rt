@@ -5,7 +5,7 @@ ghost use Rattle.text.specs.Promise.{Writing};
 ghost use Rattle.text.specs.Examples.{Examples};
 
 pub mod lines;
-pub mod words;
+pub mod pieces;
 
 // No code: its contract holds what is promised of writing beyond what each function says, so that a proof that goes missing fails the check.
 pub fn promises()

@@ -2,11 +2,11 @@
 // line at a place of a lent buffer, and returns the place after it.
 ghost use mathlib.Core.Path.{_≡_};
 ghost use mathlib.Core.List.{[], _∷_, _++_};
-ghost use Rattle.memory.specs.Words.{pick};
+ghost use Rattle.memory.specs.Tests.{pick};
 ghost use Rattle.text.specs.Sheet.{sheet, textWritten};
 ghost use Rattle.text.specs.Digits.{digits};
 ghost use Rattle.text.specs.Lines.{valued, loggedLine, refusedLine, unreadableLine, tooLongLine, endLine};
-use crate::words;
+use crate::pieces;
 use answers::Refusal;
 
 // The value of an answer and a space, where the answer's letter has one: `R`, `S` and `M`.
@@ -14,7 +14,7 @@ fn value_for(out: &mut [u8], at: usize, letter: u8, value: u8) -> usize
     ensures { λ r. ⌜ sheet (now (out .exit)) r ≡ textWritten (sheet (now (out .entry)) at) (pick (valued letter) (digits value ++ (32 ∷ [])) []) ⌝ }
 {
     if (letter == b'R') | ((letter == b'S') | (letter == b'M')) {
-        return words::number(out, at, value as u32, b' ');
+        return pieces::number(out, at, value as u32, b' ');
     }
     at
 }
@@ -24,46 +24,46 @@ pub fn logged_line(out: &mut [u8], at: usize, number: u32, kind: u8, first: u8, 
     ensures { λ r. ⌜ sheet (now (out .exit)) r ≡ textWritten (sheet (now (out .entry)) at) (loggedLine number kind first second) ⌝ }
 {
     let letter = first % 128;
-    let a = words::number(out, at, number, b' ');
-    let b = words::number(out, a, kind as u32, b' ');
-    let c = words::letter(out, b, letter);
+    let a = pieces::number(out, at, number, b' ');
+    let b = pieces::number(out, a, kind as u32, b' ');
+    let c = pieces::letter(out, b, letter);
     let d = value_for(out, c, letter, second);
-    words::number(out, d, (first / 128) as u32, b'\n')
+    pieces::number(out, d, (first / 128) as u32, b'\n')
 }
 
 // The line of a refused call.
 pub fn refused_line(out: &mut [u8], at: usize, number: u32, kind: u8, why: Refusal) -> usize
     ensures { λ r. ⌜ sheet (now (out .exit)) r ≡ textWritten (sheet (now (out .entry)) at) (refusedLine number kind why) ⌝ }
 {
-    let a = words::number(out, at, number, b' ');
-    let b = words::number(out, a, kind as u32, b' ');
-    let c = words::letter(out, b, b'!');
-    words::number(out, c, answers::number_of(why) as u32, b'\n')
+    let a = pieces::number(out, at, number, b' ');
+    let b = pieces::number(out, a, kind as u32, b' ');
+    let c = pieces::letter(out, b, b'!');
+    pieces::number(out, c, answers::number_of(why) as u32, b'\n')
 }
 
 // The line of a record that cannot be read.
 pub fn unreadable_line(out: &mut [u8], at: usize, number: u32, why: Refusal) -> usize
     ensures { λ r. ⌜ sheet (now (out .exit)) r ≡ textWritten (sheet (now (out .entry)) at) (unreadableLine number why) ⌝ }
 {
-    let a = words::number(out, at, number, b' ');
-    let b = words::letter(out, a, b'?');
-    words::number(out, b, answers::number_of(why) as u32, b'\n')
+    let a = pieces::number(out, at, number, b' ');
+    let b = pieces::letter(out, a, b'?');
+    pieces::number(out, b, answers::number_of(why) as u32, b'\n')
 }
 
 // The only line for a trace that is too long.
 pub fn too_long_line(out: &mut [u8], at: usize) -> usize
     ensures { λ r. ⌜ sheet (now (out .exit)) r ≡ textWritten (sheet (now (out .entry)) at) tooLongLine ⌝ }
 {
-    let a = words::letter(out, at, b'?');
-    words::number(out, a, 11, b'\n')
+    let a = pieces::letter(out, at, b'?');
+    pieces::number(out, a, 11, b'\n')
 }
 
 // The last line of a trace that was played whole.
 pub fn end_line(out: &mut [u8], at: usize, count: u32) -> usize
     ensures { λ r. ⌜ sheet (now (out .exit)) r ≡ textWritten (sheet (now (out .entry)) at) (endLine count) ⌝ }
 {
-    let a = words::put(out, at, b'e');
-    let b = words::put(out, a, b'n');
-    let c = words::letter(out, b, b'd');
-    words::number(out, c, count, b'\n')
+    let a = pieces::put(out, at, b'e');
+    let b = pieces::put(out, a, b'n');
+    let c = pieces::letter(out, b, b'd');
+    pieces::number(out, c, count, b'\n')
 }

@@ -5,7 +5,7 @@ use Prim.Native.Nat.{ℕ, zero, suc, _+_, _*_, _%_}
 use mathlib.Core.List.{List, [], _∷_}
 use lib.Dec.{eqb, ltb, leb}
 use lib.ListN.{drop}
-use Rattle.memory.specs.Words.{pick}
+use Rattle.memory.specs.Tests.{pick}
 use Rattle.trace.specs.declared.Numeral.{Numeral}
 use Rattle.trace.specs.declared.Numeral.the-variants.{Sound, Cut, Padded, Above}
 

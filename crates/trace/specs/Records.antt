@@ -5,7 +5,7 @@ use mathlib.Core.List.{List, [], _∷_}
 use mathlib.Core.Path.{_≡_}
 use lib.Dec.{ltb}
 use lib.ListN.{length, getD}
-use Rattle.memory.specs.Words.{pick}
+use Rattle.memory.specs.Tests.{pick}
 use Rattle.memory.specs.declared.CpuAddr.{CpuAddr}
 use Rattle.memory.specs.declared.PpuAddr.{PpuAddr}
 use Rattle.answers.specs.declared.Refusal.the-variants.{Kind, Number}

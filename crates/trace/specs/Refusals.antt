@@ -6,7 +6,7 @@ use mathlib.Core.Bool.{Bool, false, _&&_, _||_}
 use mathlib.Core.List.{List, [], _∷_}
 use lib.Dec.{eqb, ltb, leb}
 use lib.ListN.{length, getD, take, drop}
-use Rattle.memory.specs.Words.{pick}
+use Rattle.memory.specs.Tests.{pick}
 
 -- "top bit set on all but the last": with how many such bytes bytes begin. A number there has one group more.
 unfoldable pub topped : List ℕ → ℕ

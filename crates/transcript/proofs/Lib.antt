@@ -5,10 +5,10 @@ pub mod Pages
 pub mod Overs
 pub mod Counting
 pub mod Telling
-pub mod ToldEnough
+pub mod EnoughLines
 pub mod Small
 pub mod SmallKept
 pub mod SmallLoad
-pub mod ToldShort
+pub mod ShortLines
 pub mod WorkedLines
 pub mod Transcribed

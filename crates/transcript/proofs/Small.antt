@@ -12,7 +12,7 @@ use Rattle.memory.specs.declared.Src.{Src}
 use Rattle.memory.specs.declared.Src.the-variants.{PrgRom, PrgRam, Chr, CiRam, ExRam}
 use Rattle.memory.specs.declared.Src.the-variants as src
 use Rattle.memory.specs.Bytes.{Mem, byteAt}
-use Rattle.memory.specs.Words.{pick}
+use Rattle.memory.specs.Tests.{pick}
 use Rattle.memory.proofs.Tests.{pick-keeps}
 use Rattle.answers.specs.declared.Answer.{Answer}
 use Rattle.answers.specs.Letters.{valueOf}
@@ -27,7 +27,7 @@ use Rattle.split.specs.Places.{mirroredByte}
 use Rattle.state.specs.declared.PpuStatus.{PpuStatus}
 use Rattle.state.specs.declared.State.{State}
 use Rattle.cpu.specs.Groups.{within}
-use Rattle.cpu.specs.Reads.{shownAs, pageAnswer, registerRead, cpuAnswer}
+use Rattle.cpu.specs.Reads.{answeredAs, pageAnswer, registerRead, cpuAnswer}
 use Rattle.ppu.specs.Served.{direct, splitByte, splitServes, countedServed, patternServed}
 use Rattle.transcript.specs.Bytes.{Bytes, SmallMem}
 
@@ -71,7 +71,7 @@ byte-small m Chr i h = h .chr i
 byte-small m CiRam i h = h .ciram i
 byte-small m ExRam i h = h .exram i
 
-shown-small : (from : Src) (v : ℕ) → v < 256 → SmallAnswer (shownAs from v)
+shown-small : (from : Src) (v : ℕ) → v < 256 → SmallAnswer (answeredAs from v)
 shown-small src.Blank v h = omega arith
 shown-small PrgRom v h = h
 shown-small PrgRam v h = h

@@ -11,7 +11,7 @@ use Rattle.memory.specs.declared.Src.{Src}
 use Rattle.memory.specs.declared.Src.the-variants.{PrgRom, PrgRam, Chr, CiRam, ExRam}
 use Rattle.memory.specs.declared.Src.the-variants as src
 use Rattle.memory.specs.Bytes.{Mem, storedAt, pageStored}
-use Rattle.memory.specs.Words.{pick}
+use Rattle.memory.specs.Tests.{pick}
 use Rattle.memory.proofs.Tests.{pick-keeps}
 use Rattle.answers.specs.declared.Refusal.{Refusal}
 use Rattle.answers.specs.declared.Refusal.the-variants.{Audio, Counter, State as Broken}
@@ -39,7 +39,7 @@ use Rattle.ppu.specs.Fetches.{splitSeen}
 use Rattle.board.specs.declared.Outcome.{Outcome}
 use Rattle.board.specs.CpuSide.{cpuRead, cpuWrite}
 use Rattle.board.specs.Outcomes.{refused, After, afterOf, behind}
-use Rattle.board.specs.Whole.{resetCall, clockCall, ppuRegisterCall}
+use Rattle.board.specs.StateCalls.{resetCall, clockCall, ppuRegisterCall}
 use Rattle.board_ppu.specs.Fetch.{countedIrq, countedPpu, countedSplit, countedCall, patternPpu, patternCall, ppuFetch}
 use Rattle.board_ppu.specs.Peeks.{chrAnswer, ppuWrite}
 use Rattle.trace.specs.declared.Call.{Call}
@@ -172,15 +172,15 @@ reset-small s h =
     pick-keeps SmallOut (not (inRange s)) (refused-small s Broken h)
     (omega arith, record { regs = g; split = h .split; line = h .line; prg-banks = h .prg-banks; chr-banks = h .chr-banks })
 
-told-small : (d : Detector) (a v : ℕ) → SmallLine d → SmallLine (detectorAfter d a v)
+detector-small : (d : Detector) (a v : ℕ) → SmallLine d → SmallLine (detectorAfter d a v)
 unfolding detectorAfter
-told-small d a v h = pick-keeps SmallLine (eqb a 0x2001 && dark v) h h
+detector-small d a v h = pick-keeps SmallLine (eqb a 0x2001 && dark v) h h
 
 ppu-register-small : (s : State) (a v : ℕ) → SmallState s → SmallOut (ppuRegisterCall s a v)
 unfolding ppuRegisterCall
 ppu-register-small s a v h =
     pick-keeps SmallOut (not (inRange s)) (refused-small s Broken h)
-    (omega arith, with-irq (withPpu s (statusAfter (s .ppu) a v)) (detectorAfter (s .irq) a v) (told-small (s .irq) a v (h .line)) h)
+    (omega arith, with-irq (withPpu s (statusAfter (s .ppu) a v)) (detectorAfter (s .irq) a v) (detector-small (s .irq) a v (h .line)) h)
 
 irq-read-small : (d : Detector) (a : ℕ) → SmallLine d → SmallLine (irqRead d a)
 unfolding irqRead

@@ -9,7 +9,7 @@ use lib.Dec.{eqb}
 use lib.ListN.{length, getD, set, length-set}
 use lib.Seq.{getD-set-same, getD-set-other}
 use Rattle.memory.specs.Bytes.{Mem}
-use Rattle.memory.specs.Words.{asBit}
+use Rattle.memory.specs.Bits.{asBit}
 use Rattle.answers.specs.declared.Answer.{Answer}
 use Rattle.answers.specs.declared.Answer.the-variants.{Refused}
 use Rattle.answers.specs.declared.Refusal.{Refusal}
@@ -26,13 +26,13 @@ use Rattle.trace.proofs.RecordLaws.{record-advances}
 use Rattle.text.specs.Lines.{loggedLine, acceptedLine}
 use Rattle.text.proofs.LineLaws.{logged as logged-line}
 use Rattle.calls.specs.Called.{called}
-use Rattle.promises.proofs.Refusals.{Given}
+use Rattle.theorems_promises.proofs.Refusals.{Given}
 use Rattle.logs.specs.Logs.{logLetter, logged}
 use Rattle.player.specs.Replay.{Left, playedFrom}
 use Rattle.player.proofs.Steps.{logged-length}
 use Rattle.player.proofs.Ways.{by-found}
 use Rattle.transcript.specs.Printed.{stoppedAt, printedFrom}
-use Rattle.transcript.specs.Told.{toldFrom, PrintedIsTold}
+use Rattle.transcript.specs.Lines.{linesFrom, PrintedIsLines}
 
 -- A replay stops no sooner than where it begins.
 abbrev NotBefore : ℕ → Left → Type 0
@@ -106,11 +106,11 @@ module _ (k : ℕ) (trace : List ℕ) (at n : ℕ) (s : State) (m : Mem) (log : 
   unfolding printedFrom
   printed-on = rw (r, stops-later k trace next (n + 1) (after .out .state) (after .mem) now-logged at (record-advances trace at call next r .0))
 
-  told-on : Given (after .out .answer)
-      → toldFrom (suc k) trace at n s m
-      ≡ acceptedLine n (kindOf call) (after .out .answer) (interruptUp (after .out .state .irq)) ++ toldFrom k trace next (n + 1) (after .out .state) (after .mem)
-  unfolding toldFrom
-  told-on g = rw r (accepted-goes-on (after .out .answer) _ _ g)
+  lines-on : Given (after .out .answer)
+      → linesFrom (suc k) trace at n s m
+      ≡ acceptedLine n (kindOf call) (after .out .answer) (interruptUp (after .out .state .irq)) ++ linesFrom k trace next (n + 1) (after .out .state) (after .mem)
+  unfolding linesFrom
+  lines-on g = rw r (accepted-goes-on (after .out .answer) _ _ g)
 
   line-on : Given (after .out .answer) → 2 * n + 1 < length log
       → loggedLine n (kindOf call) (getD (on .log) (2 * n) 0) (getD (on .log) (2 * n + 1) 0) ≡ acceptedLine n (kindOf call) (after .out .answer) (interruptUp (after .out .state .irq))
@@ -119,33 +119,33 @@ module _ (k : ℕ) (trace : List ℕ) (at n : ℕ) (s : State) (m : Mem) (log : 
       rw (kept (2 * n) (omega arith), kept (2 * n + 1) (omega arith)) (line-is log n (kindOf call) (after .out .answer) (interruptUp (after .out .state .irq)) g h)
 
   refused-here : (why : Refusal) → after .out .answer ≡ Refused why
-      → printedFrom (suc k) trace at n (playedFrom (suc k) trace at n s m log .log) (playedFrom (suc k) trace at n s m log .out .ending) ≡ toldFrom (suc k) trace at n s m
-  unfolding playedFrom printedFrom toldFrom
+      → printedFrom (suc k) trace at n (playedFrom (suc k) trace at n s m log .log) (playedFrom (suc k) trace at n s m log .out .ending) ≡ linesFrom (suc k) trace at n s m
+  unfolding playedFrom printedFrom linesFrom
   refused-here why e = rw (r, e, eq-eqb at at refl)
 
 ended-here : (k : ℕ) (trace : List ℕ) (at n : ℕ) (s : State) (m : Mem) (log : List ℕ) → recordAt trace at ≡ End
-    → printedFrom (suc k) trace at n (playedFrom (suc k) trace at n s m log .log) (playedFrom (suc k) trace at n s m log .out .ending) ≡ toldFrom (suc k) trace at n s m
-unfolding playedFrom printedFrom toldFrom
+    → printedFrom (suc k) trace at n (playedFrom (suc k) trace at n s m log .log) (playedFrom (suc k) trace at n s m log .out .ending) ≡ linesFrom (suc k) trace at n s m
+unfolding playedFrom printedFrom linesFrom
 ended-here k trace at n s m log r = rw r
 
 unreadable-here : (k : ℕ) (trace : List ℕ) (at n : ℕ) (s : State) (m : Mem) (log : List ℕ) (why : Refusal) → recordAt trace at ≡ Unreadable why
-    → printedFrom (suc k) trace at n (playedFrom (suc k) trace at n s m log .log) (playedFrom (suc k) trace at n s m log .out .ending) ≡ toldFrom (suc k) trace at n s m
-unfolding playedFrom printedFrom toldFrom
+    → printedFrom (suc k) trace at n (playedFrom (suc k) trace at n s m log .log) (playedFrom (suc k) trace at n s m log .out .ending) ≡ linesFrom (suc k) trace at n s m
+unfolding playedFrom printedFrom linesFrom
 unreadable-here k trace at n s m log why r = rw r
 
 none-left : (trace : List ℕ) (at n : ℕ) (s : State) (m : Mem) (log : List ℕ)
-    → printedFrom 0 trace at n (playedFrom 0 trace at n s m log .log) (playedFrom 0 trace at n s m log .out .ending) ≡ toldFrom 0 trace at n s m
-unfolding playedFrom printedFrom toldFrom
+    → printedFrom 0 trace at n (playedFrom 0 trace at n s m log .log) (playedFrom 0 trace at n s m log .out .ending) ≡ linesFrom 0 trace at n s m
+unfolding playedFrom printedFrom linesFrom
 none-left trace at n s m log = refl
 
 -- From the same of what comes after it.
-abbrev Told : ℕ → Type 0
-Told k =
+abbrev Lined : ℕ → Type 0
+Lined k =
     (trace : List ℕ) (at n : ℕ) (s : State) (m : Mem) (log : List ℕ) → n ≤ at → 2 * length trace ≤ length log
-    → printedFrom k trace at n (playedFrom k trace at n s m log .log) (playedFrom k trace at n s m log .out .ending) ≡ toldFrom k trace at n s m
+    → printedFrom k trace at n (playedFrom k trace at n s m log .log) (playedFrom k trace at n s m log .out .ending) ≡ linesFrom k trace at n s m
 
-on-record : (k : ℕ) → Told k → (trace : List ℕ) (at n : ℕ) (s : State) (m : Mem) (log : List ℕ) → n ≤ at → 2 * length trace ≤ length log → (r : Found) → recordAt trace at ≡ r
-    → printedFrom (suc k) trace at n (playedFrom (suc k) trace at n s m log .log) (playedFrom (suc k) trace at n s m log .out .ending) ≡ toldFrom (suc k) trace at n s m
+on-record : (k : ℕ) → Lined k → (trace : List ℕ) (at n : ℕ) (s : State) (m : Mem) (log : List ℕ) → n ≤ at → 2 * length trace ≤ length log → (r : Found) → recordAt trace at ≡ r
+    → printedFrom (suc k) trace at n (playedFrom (suc k) trace at n s m log .log) (playedFrom (suc k) trace at n s m log .out .ending) ≡ linesFrom (suc k) trace at n s m
 on-record k ih trace at n s m log i h End r = ended-here k trace at n s m log r
 on-record k ih trace at n s m log i h (Unreadable why) r = unreadable-here k trace at n s m log why r
 on-record k ih trace at n s m log i h (Record call next) r =
@@ -159,8 +159,8 @@ on-record k ih trace at n s m log i h (Record call next) r =
     (line-on k trace at n s m log call next r g (omega (arith, o .0, o .1, i, h)))
     ∙ ap (λ (l : List ℕ). acceptedLine n (kindOf call) (c .out .answer) (interruptUp (c .out .state .irq)) ++ l)
     (ih trace next (n + 1) (c .out .state) (c .mem) (now-logged k trace at n s m log call next r) (omega (arith, o .0, i)) (rw (logged-length log n (c .out .answer) (interruptUp (c .out .state .irq))) h))
-    ∙ sym (told-on k trace at n s m log call next r g))
+    ∙ sym (lines-on k trace at n s m log call next r g))
 
-pub printed-is-told : PrintedIsTold
-printed-is-told zero trace at n s m log i h = none-left trace at n s m log
-printed-is-told (suc k) trace at n s m log i h = on-record k (printed-is-told k) trace at n s m log i h (recordAt trace at) refl
+pub printed-is-lines : PrintedIsLines
+printed-is-lines zero trace at n s m log i h = none-left trace at n s m log
+printed-is-lines (suc k) trace at n s m log i h = on-record k (printed-is-lines k) trace at n s m log i h (recordAt trace at) refl

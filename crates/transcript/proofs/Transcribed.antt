@@ -14,9 +14,9 @@ use Rattle.registers.specs.declared.Mirroring.the-variants.{Horizontal}
 use Rattle.state.specs.declared.gate.Gate.the-variants.{Open}
 use Rattle.state.specs.Gate.{gateMem}
 use Rattle.board.specs.Loads.{loadCall}
-use Rattle.promises.specs.Loading.{goodPrg, goodChr, goodRam}
-use Rattle.promises.proofs.Loadings.{load-refusals}
-use Rattle.promises.proofs.Promised.{gate-stays-open}
+use Rattle.theorems_promises.specs.Loading.{goodPrg, goodChr, goodRam}
+use Rattle.theorems_promises.proofs.Loadings.{load-refusals}
+use Rattle.theorems_promises.proofs.Promised.{gate-stays-open}
 use Rattle.trace.specs.Cartridge.{cartridge}
 use Rattle.trace.specs.Examples.{worked}
 use Rattle.trace.proofs.CartridgeLaws.{cartridge-bytes}
@@ -24,11 +24,11 @@ use Rattle.text.specs.Lines.{tooLongLine}
 use Rattle.player.specs.Replay.{Left, playedFrom, replayed}
 use Rattle.transcript.specs.Cartridge.{fromLoad, printedOver, transcript}
 use Rattle.transcript.specs.Printed.{printedFrom, printed}
-use Rattle.transcript.specs.Told.{toldFrom, TranscriptIsTold}
+use Rattle.transcript.specs.Lines.{linesFrom, TranscriptIsLines}
 use Rattle.transcript.proofs.SmallLoad.{cartridge-small, load-small}
-use Rattle.transcript.proofs.Telling.{printed-is-told}
-use Rattle.transcript.proofs.ToldEnough.{same-rest}
-use Rattle.transcript.proofs.ToldShort.{too-long-short, told-short}
+use Rattle.transcript.proofs.Telling.{printed-is-lines}
+use Rattle.transcript.proofs.EnoughLines.{same-rest}
+use Rattle.transcript.proofs.ShortLines.{too-long-short, lines-short}
 use Rattle.transcript.proofs.WorkedLines.{worked-lines}
 
 -- The load -----------------------------------------------------------------------------------------------------------------------------------
@@ -60,12 +60,12 @@ plays : (trace log : List ℕ) → length trace ≤ 8192
 unfolding fromLoad replayed
 plays trace log h = rw (le-ltb 8192 (length trace) h, gate-open, add-one (length trace))
 
-told : (trace : List ℕ) → length trace ≤ 8192 → transcript trace ≡ toldFrom (suc (length trace)) trace 0 0 (loadCall cartridge false Horizontal .state) cartridge
+lines : (trace : List ℕ) → length trace ≤ 8192 → transcript trace ≡ linesFrom (suc (length trace)) trace 0 0 (loadCall cartridge false Horizontal .state) cartridge
 unfolding transcript printedOver printed
-told trace h =
+lines trace h =
     rw (le-ltb 8192 (length trace) h)
     (ap (λ (l : Left). printedFrom (suc (length trace)) trace 0 0 (l .log) (l .out .ending)) (plays trace (replicate 16384 0) h)
-    ∙ printed-is-told (suc (length trace)) trace 0 0 (loadCall cartridge false Horizontal .state) cartridge (replicate 16384 0) (omega arith) (omega (arith, h, length-replicate {A = ℕ} 16384 0)))
+    ∙ printed-is-lines (suc (length trace)) trace 0 0 (loadCall cartridge false Horizontal .state) cartridge (replicate 16384 0) (omega arith) (omega (arith, h, length-replicate {A = ℕ} 16384 0)))
 
 -- The text finds room wherever that many lines do.
 room : (most : ℕ) → 15 * 8193 ≤ most → (trace : List ℕ) → length (transcript trace) ≤ most
@@ -78,17 +78,17 @@ room most r trace =
       arith,
       r,
       h,
-      ap (λ (l : List ℕ). length l) (told trace h),
-      told-short (suc (length trace)) trace 0 0 (loadCall cartridge false Horizontal .state) cartridge h (omega arith) (omega arith) (load-small cartridge false Horizontal) cartridge-small,
+      ap (λ (l : List ℕ). length l) (lines trace h),
+      lines-short (suc (length trace)) trace 0 0 (loadCall cartridge false Horizontal .state) cartridge h (omega arith) (omega arith) (load-small cartridge false Horizontal) cartridge-small,
     ))
 
-pub transcript-is-told : TranscriptIsTold
-transcript-is-told =
+pub transcript-is-lines : TranscriptIsLines
+transcript-is-lines =
     record {
       loads = loads;
       too-long = too-long;
-      told = told;
+      lines = lines;
       enough = λ k trace at n s m h. same-rest k (suc (length trace)) trace at n s m (omega (arith, h)) (omega arith) (omega (arith, h)) (omega arith);
       room = room _ (omega arith);
-      worked-example = told worked (omega arith) ∙ worked-lines;
+      worked-example = lines worked (omega arith) ∙ worked-lines;
     }

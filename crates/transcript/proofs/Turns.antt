@@ -63,12 +63,12 @@ module _ (trace log : List ℕ) (e : Ending) (out₀ : List ℕ) where
   nearer-wf = InvImage·wf (λ (t : Turn). length trace - t .at) (Nat·lt-wfRel .wf)
 
   -- what `print_record` ensures of a line r and the text `out` after it
-  abbrev pub Told : Turn → Found → Line → List ℕ → Type 0
-  Told t f r out = (sheet out (r .to) ≡ textWritten (sheet (t .out) (t .to)) (lineOf f (t .at) (t .n) log e)) × ((r .more ≡ goesOn f (t .at) e) × (r .next ≡ nextOf f (t .at)))
+  abbrev pub Lined : Turn → Found → Line → List ℕ → Type 0
+  Lined t f r out = (sheet out (r .to) ≡ textWritten (sheet (t .out) (t .to)) (lineOf f (t .at) (t .n) log e)) × ((r .more ≡ goesOn f (t .at) e) × (r .next ≡ nextOf f (t .at)))
 
-  module _ (t : Turn) (f : Found) (found : f ≡ recordAt trace (t .at)) (r : Line) (out : List ℕ) (told : Told t f r out) where
-    here : Told t (recordAt trace (t .at)) r out
-    here = subst (λ (g : Found). Told t g r out) found told
+  module _ (t : Turn) (f : Found) (found : f ≡ recordAt trace (t .at)) (r : Line) (out : List ℕ) (lined : Lined t f r out) where
+    here : Lined t (recordAt trace (t .at)) r out
+    here = subst (λ (g : Found). Lined t g r out) found lined
 
     -- the last line
     pub last-line : Holds (not (r .more)) → sheet out (r .to) ≡ allOf

@@ -3,12 +3,13 @@ use mathlib.Core.Bool.{false}
 use mathlib.Core.Path.{_≡_, refl}
 use Rattle.registers.specs.declared.Mirroring.the-variants.{Horizontal}
 use Rattle.memory.specs.Bytes.{offsetOf, byteAt, storedAt, pageStored}
-use Rattle.memory.specs.Tables.{all, prgShowsAs, chrShowsAs}
-use Rattle.memory.specs.Words.{wordNumber, pageOf}
+use Rattle.memory.specs.Tests.{all}
+use Rattle.memory.specs.Tables.{prgMayHoldAs, chrMayHoldAs}
+use Rattle.memory.specs.PageWords.{wordNumber, pageOf}
 use Rattle.memory.specs.Windows.{pageStart, windowPage}
 use Rattle.registers.specs.Registers.{written, regsOk}
 use Rattle.banks.specs.Placed.{placed}
-use Rattle.banks.specs.Prg.{prgValues, prgShown, windowsMapped, exramPage}
+use Rattle.banks.specs.Prg.{prgValues, prgValuePages, windowsMapped, exramPage}
 use Rattle.banks.specs.Chr.{windowPages, chrNumber, chrMapped}
 use Rattle.banks.specs.Names.{selector, namePage, namesMapped}
 use Rattle.scanline.specs.Tiles.{nextTile, tilesOk, spriteFetch, isFirst, isPrefetched, columnOf}
@@ -27,7 +28,7 @@ use Rattle.ppu.specs.Fetches.{cacheAfter, ppuSeen, splitSeen}
 use Rattle.ppu.specs.Served.{countedServed}
 use Rattle.board.specs.Loads.{loadedState, loadCall}
 use Rattle.board.specs.CpuSide.{cpuRead, cpuWrite}
-use Rattle.board.specs.Whole.{clockCall, ppuRegisterCall}
+use Rattle.board.specs.StateCalls.{clockCall, ppuRegisterCall}
 use Rattle.board_ppu.specs.Fetch.{countedCall, ppuFetch}
 use Rattle.board_ppu.specs.Peeks.{chrAnswer}
 use Rattle.trace.specs.Numbers.{grouped, numeral, limited}
@@ -37,8 +38,8 @@ use Rattle.trace.specs.Examples.{worked}
 use Rattle.text.specs.Digits.{before}
 use Rattle.text.specs.Examples.{workedLines}
 use Rattle.text.specs.Lines.{line}
-use Rattle.transcript.specs.Told.{toldFrom}
+use Rattle.transcript.specs.Lines.{linesFrom}
 
-pub worked-lines : toldFrom 22 worked 0 0 (loadCall cartridge false Horizontal .state) cartridge ≡ workedLines
-unfolding nextTile tilesOk spriteFetch isFirst isPrefetched columnOf lineRefused counterRefused detectorOk tick again matchesAfter isLine meets seenAt offsetOf byteAt storedAt pageStored all prgShowsAs chrShowsAs wordNumber pageOf pageStart windowPage written regsOk placed prgValues prgShown windowsMapped exramPage windowPages chrNumber chrMapped selector namePage namesMapped sameLengths gateOf lengthsOk inRange chosen ppuAfter splitAfter irqAfter prgBanksAfter chrBanksAfter pageAnswer registerRead irqRead cpuAnswer prgPagesAfter chrPagesAfter registerWritten latched cpuStored cacheAfter ppuSeen splitSeen countedServed loadedState loadCall cpuRead cpuWrite clockCall statusAfter detectorAfter ppuRegisterCall countedCall ppuFetch chrAnswer grouped numeral limited numbered filled recordAt countedPages cartridge before line toldFrom
+pub worked-lines : linesFrom 22 worked 0 0 (loadCall cartridge false Horizontal .state) cartridge ≡ workedLines
+unfolding nextTile tilesOk spriteFetch isFirst isPrefetched columnOf lineRefused counterRefused detectorOk tick again matchesAfter isLine meets seenAt offsetOf byteAt storedAt pageStored all prgMayHoldAs chrMayHoldAs wordNumber pageOf pageStart windowPage written regsOk placed prgValues prgValuePages windowsMapped exramPage windowPages chrNumber chrMapped selector namePage namesMapped sameLengths gateOf lengthsOk inRange chosen ppuAfter splitAfter irqAfter prgBanksAfter chrBanksAfter pageAnswer registerRead irqRead cpuAnswer prgPagesAfter chrPagesAfter registerWritten latched cpuStored cacheAfter ppuSeen splitSeen countedServed loadedState loadCall cpuRead cpuWrite clockCall statusAfter detectorAfter ppuRegisterCall countedCall ppuFetch chrAnswer grouped numeral limited numbered filled recordAt countedPages cartridge before line linesFrom
 worked-lines = refl

@@ -1,4 +1,4 @@
 pub mod Bytes
 pub mod Printed
 pub mod Cartridge
-pub mod Told
+pub mod Lines

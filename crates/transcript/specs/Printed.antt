@@ -4,7 +4,7 @@ use mathlib.Core.Bool.{Bool, false, not}
 use mathlib.Core.List.{List, [], _++_}
 use lib.Dec.{eqb}
 use lib.ListN.{length, getD}
-use Rattle.memory.specs.Words.{pick}
+use Rattle.memory.specs.Tests.{pick}
 use Rattle.answers.specs.declared.Refusal.{Refusal}
 use Rattle.answers.specs.declared.Refusal.the-variants.{Length}
 use Rattle.trace.specs.declared.Call.{Call}

@@ -6,7 +6,7 @@ use Rattle.memory.specs.declared.Page.{Page}
 use Rattle.memory.specs.declared.PageWord.{PageWord}
 use Rattle.memory.specs.declared.Src.{Src}
 use Rattle.memory.specs.Bytes.{Mem}
-use Rattle.memory.specs.Words.{pageOf}
+use Rattle.memory.specs.PageWords.{pageOf}
 use Rattle.state.specs.declared.gate.Gate.{Gate}
 use Rattle.state.specs.declared.gate.Gate.the-variants.{Open}
 use Rattle.state.specs.declared.State.{State}

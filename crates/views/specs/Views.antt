@@ -7,7 +7,8 @@ use lib.ListN.{length, take, drop}
 use Rattle.memory.specs.declared.Src.{Src}
 use Rattle.memory.specs.declared.Src.the-variants.{Blank, PrgRom, PrgRam, Chr, CiRam, ExRam}
 use Rattle.memory.specs.Bytes.{Mem}
-use Rattle.memory.specs.Words.{pick, pageOf}
+use Rattle.memory.specs.Tests.{pick}
+use Rattle.memory.specs.PageWords.{pageOf}
 use Rattle.answers.specs.declared.Refusal.{Refusal}
 use Rattle.state.specs.declared.State.{State}
 use Rattle.state.specs.Gate.{gateMem}

@@ -42,7 +42,7 @@ pub fn cpu_view<'a>(
     }
     let pages = s.prg_pages;
     let word = cpu::writes::prg_word_at(pages, addr);
-    let page = memory::words::page_of(word);
+    let page = memory::page_words::page_of(word);
     let src = page.src;
     let from = page.index as usize * 1024;
     match src {
@@ -73,7 +73,7 @@ pub fn ppu_view<'a>(
     }
     let pages = s.chr_pages;
     let word = board_ppu::pages::chr_word_at(pages, addr);
-    let page = memory::words::page_of(word);
+    let page = memory::page_words::page_of(word);
     let src = page.src;
     let from = page.index as usize * 1024;
     match src {

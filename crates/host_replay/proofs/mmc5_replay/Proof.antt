@@ -5,7 +5,7 @@ use Rattle.host_replay.proofs.mmc5_replay.Statement.{statement}
 use Rattle.host_replay.proofs.mmc5_replay.Tie as tie
 
 returns : tie.Need-returns
-returns c = too-long-stays _ _ _ _ _ _ (c .before .before .too-long .ensures) (c .before .if1 .taken) (c .told .ensures)
+returns c = too-long-stays _ _ _ _ _ _ (c .before .before .too-long .ensures) (c .before .if1 .taken) (c .ending-number .ensures)
 
 returns-2 : tie.Need-returns-2
 returns-2 c =
@@ -13,10 +13,10 @@ returns-2 c =
     let at-passed = at-gate .before .before in
     let at-if1 = at-passed .before .before in
     shut-stays _ _ _ _ _ _ _ _ (at-if1 .before .too-long .ensures) (at-if1 .if1 .left) (at-passed .passed .ensures) (at-gate .gate .given .1)
-    (c .told2 .ensures)
+    (c .ending-number2 .ensures)
 
-told-requires-3 : tie.Need-told-requires-3
-told-requires-3 c κs =
+ending-number-requires-3 : tie.Need-ending-number-requires-3
+ending-number-requires-3 c κs =
     let midway = c .before .before .before .before .before .before in
     short-ending _ _ _ _ _ _ _ (midway .before .before .before .before .before .before .before .replay .ensures)
 
@@ -29,12 +29,12 @@ returns-3 c =
     let at-passed = at-told .before .before in
     let at-if1 = at-passed .before .before in
     replay-left _ _ _ _ _ _ _ _ _ _ _ _ (at-if1 .before .too-long .ensures) (at-if1 .if1 .left) (at-passed .passed .ensures) (at-told .enum-told .given .1)
-    (at-state-of .state-of .ensures) (at-replay .replay .ensures) (c .before .put-state .ensures) (c .told3 .ensures)
+    (at-state-of .state-of .ensures) (at-replay .replay .ensures) (c .before .put-state .ensures) (c .ending-number3 .ensures)
 
 pub mmc5-replay-spec : {M : Type 1} → statement M
 mmc5-replay-spec =
     tie.close
     (tie.spec
     (λ c κs. search needs) (λ c κs. search needs) returns (λ c κs. search needs) (λ c. search needs) (λ c κs. search needs) returns-2 (λ c. search needs)
-    (λ c κs. search needs) (λ c κs. search needs) (λ c κs. search needs) told-requires-3 (λ c. search needs) (λ c. search needs) (λ c. search needs)
+    (λ c κs. search needs) (λ c κs. search needs) (λ c κs. search needs) ending-number-requires-3 (λ c. search needs) (λ c. search needs) (λ c. search needs)
     (λ c. search needs) (λ c. search needs) returns-3)

@@ -1,6 +1,6 @@
 -- `promises` holds: the ranges are kept, by `ranges-kept`; the two clocks are one, by `same-clock`; the count turns over, by `turns` and `four-looks`; the
 -- worked cases, by computation.
-use Rattle.memory.specs.Tables.{all}
+use Rattle.memory.specs.Tests.{all}
 use Rattle.scanline.specs.Clock.{tick}
 use Rattle.scanline.specs.Ranges.{detectorOk, lineRefused, counterRefused}
 use Rattle.scanline.specs.Steps.{again, matchesAfter, isLine, meets, seenAt}

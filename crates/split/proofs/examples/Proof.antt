@@ -1,6 +1,6 @@
 -- Each case is computed.
 use mathlib.Core.Path.{refl}
-use Rattle.memory.specs.Tables.{all}
+use Rattle.memory.specs.Tests.{all}
 use Rattle.split.specs.Examples.{Examples, splitCases}
 use Rattle.split.specs.Places.{attributeAddress, attributeShift, mirroredByte, patternOffset}
 use Rattle.split.specs.Region.{sideAt, regionAt, splitAddress, afterName}

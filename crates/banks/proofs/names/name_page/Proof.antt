@@ -2,7 +2,7 @@
 use borrow.Author.Needs.{needs}
 use borrow.Author.Tests.{ne-eqb}
 use Rattle.banks.specs.Names.{namePage}
-use Rattle.memory.specs.Words.{wordNumber}
+use Rattle.memory.specs.PageWords.{wordNumber}
 use Rattle.banks.proofs.names.name_page.Statement.{statement}
 use Rattle.banks.proofs.names.name_page.Tie as tie
 

@@ -2,7 +2,7 @@
 use borrow.Author.Needs.{needs}
 use borrow.Author.Tests.{lt-ltb, le-ltb}
 use Rattle.banks.specs.Prg.{exramPage}
-use Rattle.memory.specs.Words.{wordNumber}
+use Rattle.memory.specs.PageWords.{wordNumber}
 use Rattle.banks.proofs.prg.exram_page.Statement.{statement}
 use Rattle.banks.proofs.prg.exram_page.Tie as tie
 

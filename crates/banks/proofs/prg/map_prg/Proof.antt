@@ -19,7 +19,7 @@ unfolding windowsMapped
 loop-holds c = (search needs, refl)
 
 loop-again : tie.Need-loop-again Inv-loop μ-loop
-loop-again c = (search needs, windows-next _ _ _ _ _ _ _ _ (c .before .before .before .before .before .before .before .before .before .before .loop .inv .1) (c .before .before .before .before .before .before .before .before .shown .ensures))
+loop-again c = (search needs, windows-next _ _ _ _ _ _ _ _ (c .before .before .before .before .before .before .before .before .before .before .loop .inv .1) (c .before .before .before .before .before .before .before .before .value-pages .ensures))
 
 returns : tie.Need-returns Inv-loop μ-loop
 returns c = let e : c .before .loop .i ≡ 5 = omega arith in (rw e at (c .before .loop .inv .1)) ∙ rw (c .before .before .values .ensures, c .before .before .before .unlocked .ensures)

@@ -2,7 +2,7 @@
 use mathlib.Core.Path.{sym, _∙_}
 use borrow.Author.Needs.{needs}
 use borrow.Author.Tests.{not-false}
-use Rattle.board.specs.Whole.{clockCall}
+use Rattle.board.specs.StateCalls.{clockCall}
 use Rattle.scanline.proofs.RangeLaws.{ranges-kept}
 use Rattle.state.proofs.RangeLaws.{ranged}
 use Rattle.board.proofs.clocks.clock.Statement.{statement}

@@ -1,5 +1,5 @@
 -- The ranges, then what the two groups are told.
-use Rattle.board.specs.Whole.{ppuRegisterCall}
+use Rattle.board.specs.StateCalls.{ppuRegisterCall}
 use borrow.Author.Needs.{needs}
 use Rattle.board.proofs.ppu_registers.ppu_register.Statement.{statement}
 use Rattle.board.proofs.ppu_registers.ppu_register.Tie as tie

@@ -6,7 +6,7 @@ use Rattle.memory.specs.Bytes.{memOf}
 use Rattle.state.specs.declared.PpuStatus.{PpuStatus}
 use Rattle.board.specs.declared.Outcome.{Outcome}
 use Rattle.board_ppu.proofs.Made.{fetch-refused}
-use Rattle.promises.proofs.Promised.{who-is-refused}
+use Rattle.theorems_promises.proofs.Promised.{who-is-refused}
 use Rattle.host_state.specs.Words.{stateOf}
 use Rattle.host.proofs.HostLaws.{refused-left, shut-said, open-said, open-in-range, status-said}
 use Rattle.host.proofs.FetchLaws.{counter-said, groups-ranged, counted-left, other-left}

@@ -1,13 +1,13 @@
--- The page in the table, told if the words stand for a state in range.
+-- The page in the table, answered if the words stand for a state in range.
 use mathlib.Core.Path.{ap, _∙_}
-use Rattle.memory.specs.Words.{pageOf}
-use Rattle.host_looks.proofs.LookLaws.{entry-told}
+use Rattle.memory.specs.PageWords.{pageOf}
+use Rattle.host_looks.proofs.LookLaws.{entry-answered}
 use borrow.Author.Needs.{needs}
 use Rattle.host_looks.proofs.pages.mmc5_ppu_entry.Statement.{statement}
 use Rattle.host_looks.proofs.pages.mmc5_ppu_entry.Tie as tie
 
 returns : tie.Need-returns
-returns c = entry-told _ _ _ _ _ _ (c .before .before .before .before .in-range .ensures) (c .before .before .page-of .ensures ∙ ap pageOf (c .before .before .before .chr-word .ensures)) (c .before .entry-number .ensures) (c .if-in-range .ensures)
+returns c = entry-answered _ _ _ _ _ _ (c .before .before .before .before .in-range .ensures) (c .before .before .page-of .ensures ∙ ap pageOf (c .before .before .before .chr-word .ensures)) (c .before .entry-number .ensures) (c .if-in-range .ensures)
 
 pub mmc5-ppu-entry-spec : {M : Type 1} → statement M
 mmc5-ppu-entry-spec =

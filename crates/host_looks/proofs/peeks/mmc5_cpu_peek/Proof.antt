@@ -1,11 +1,11 @@
--- The words are read, the board is asked, and what it answers is told.
-use Rattle.host_looks.proofs.LookLaws.{look-told}
+-- The words are read, the board is asked, and its answer is given as a number.
+use Rattle.host_looks.proofs.LookLaws.{look-answered}
 use borrow.Author.Needs.{needs}
 use Rattle.host_looks.proofs.peeks.mmc5_cpu_peek.Statement.{statement}
 use Rattle.host_looks.proofs.peeks.mmc5_cpu_peek.Tie as tie
 
 returns : tie.Need-returns
-returns c = look-told _ _ _ _ _ _ (c .before .before .state-of .ensures) (c .before .cpu-peek .ensures) (c .plain .ensures)
+returns c = look-answered _ _ _ _ _ _ (c .before .before .state-of .ensures) (c .before .cpu-peek .ensures) (c .plain .ensures)
 
 pub mmc5-cpu-peek-spec : {M : Type 1} → statement M
 mmc5-cpu-peek-spec = tie.close (tie.spec (λ c κs. search needs) (λ c κs. search needs) (λ c κs. search needs) returns)

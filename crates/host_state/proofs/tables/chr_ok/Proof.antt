@@ -2,15 +2,15 @@
 use Prim.Native.Nat.{_-_}
 use native.Mathlib.Omega.{arith}
 use Rattle.memory.specs.declared.PageWord.{PageWord}
-use Rattle.memory.specs.Tables.{chrShows}
-use Rattle.memory.specs.Words.{pageOf}
+use Rattle.memory.specs.Tables.{chrMayHold}
+use Rattle.memory.specs.PageWords.{pageOf}
 use Rattle.host_state.proofs.PartLaws.{Asking, ask-first, ask-next, ask-last}
 use borrow.Author.Needs.{needs}
 use Rattle.host_state.proofs.tables.chr_ok.Statement.{statement}
 use Rattle.host_state.proofs.tables.chr_ok.Tie as tie
 
 abbrev Inv-loop : tie.InvT-loop
-Inv-loop chr-len chr-writable words ok₀ i₀ ok i = Asking (λ (w : PageWord). chrShows chr-len chr-writable (pageOf w)) words 128 16 ok i
+Inv-loop chr-len chr-writable words ok₀ i₀ ok i = Asking (λ (w : PageWord). chrMayHold chr-len chr-writable (pageOf w)) words 128 16 ok i
 
 abbrev μ-loop : tie.MeasureT-loop
 μ-loop chr-len chr-writable words ok₀ i₀ ok i = 16 - i

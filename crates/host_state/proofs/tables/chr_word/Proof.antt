@@ -1,7 +1,7 @@
 -- The table's page word is its number.
 use mathlib.Core.Path.{sym, ap, _∙_}
 use lib.ListN.{List·getD-map}
-use Rattle.memory.specs.Words.{word}
+use Rattle.memory.specs.PageWords.{word}
 use Rattle.host_state.specs.Words.{chrNumbers}
 use Rattle.host_state.proofs.PartLaws.{part-at}
 use borrow.Author.Needs.{needs}

@@ -2,7 +2,7 @@
 use Prim.Native.Nat.{_-_}
 use mathlib.Core.Path.{refl}
 use native.Mathlib.Omega.{arith}
-use Rattle.memory.specs.Words.{word}
+use Rattle.memory.specs.PageWords.{word}
 use Rattle.host_state.proofs.PartLaws.{Taking, take-first, take-next, take-last}
 use borrow.Author.Needs.{needs}
 use Rattle.host_state.proofs.tables.prg_table.Statement.{statement}

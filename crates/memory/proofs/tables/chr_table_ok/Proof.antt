@@ -1,15 +1,15 @@
 -- All 16 words are tested: the loop keeps `Tested`.
 use Prim.Native.Nat.{_-_}
 use borrow.Author.Needs.{needs}
-use Rattle.memory.specs.Tables.{chrShows}
-use Rattle.memory.specs.Words.{word, pageOf}
+use Rattle.memory.specs.Tables.{chrMayHold}
+use Rattle.memory.specs.PageWords.{word, pageOf}
 use Rattle.memory.specs.declared.PageWord.{PageWord}
 use Rattle.memory.proofs.TableLaws.{Tested, test-first, test-next, test-last}
 use Rattle.memory.proofs.tables.chr_table_ok.Statement.{statement}
 use Rattle.memory.proofs.tables.chr_table_ok.Tie as tie
 
 abbrev Inv-loop : tie.InvT-loop
-Inv-loop chr-len chr-writable pages ok₀ i₀ ok i = Tested (λ (w : PageWord). chrShows chr-len chr-writable (pageOf w)) pages ok i
+Inv-loop chr-len chr-writable pages ok₀ i₀ ok i = Tested (λ (w : PageWord). chrMayHold chr-len chr-writable (pageOf w)) pages ok i
 
 abbrev μ-loop : tie.MeasureT-loop
 μ-loop chr-len chr-writable pages ok₀ i₀ ok i = 16 - i

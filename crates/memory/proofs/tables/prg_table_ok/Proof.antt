@@ -1,15 +1,15 @@
 -- All 64 words are tested: the loop keeps `Tested`.
 use Prim.Native.Nat.{_-_}
 use borrow.Author.Needs.{needs}
-use Rattle.memory.specs.Tables.{prgShows}
-use Rattle.memory.specs.Words.{word, pageOf}
+use Rattle.memory.specs.Tables.{prgMayHold}
+use Rattle.memory.specs.PageWords.{word, pageOf}
 use Rattle.memory.specs.declared.PageWord.{PageWord}
 use Rattle.memory.proofs.TableLaws.{Tested, test-first, test-next, test-last}
 use Rattle.memory.proofs.tables.prg_table_ok.Statement.{statement}
 use Rattle.memory.proofs.tables.prg_table_ok.Tie as tie
 
 abbrev Inv-loop : tie.InvT-loop
-Inv-loop prg-len ram-len pages ok₀ i₀ ok i = Tested (λ (w : PageWord). prgShows prg-len ram-len (pageOf w)) pages ok i
+Inv-loop prg-len ram-len pages ok₀ i₀ ok i = Tested (λ (w : PageWord). prgMayHold prg-len ram-len (pageOf w)) pages ok i
 
 abbrev μ-loop : tie.MeasureT-loop
 μ-loop prg-len ram-len pages ok₀ i₀ ok i = 64 - i

@@ -3,7 +3,7 @@ use mathlib.Core.Path.{_∙_}
 use borrow.Author.Needs.{needs}
 use borrow.Author.Tests.{eq-eqb, ne-eqb}
 use Rattle.memory.specs.Windows.{windowPage}
-use Rattle.memory.specs.Words.{wordNumber}
+use Rattle.memory.specs.PageWords.{wordNumber}
 use Rattle.memory.proofs.windows.chr_window.Statement.{statement}
 use Rattle.memory.proofs.windows.chr_window.Tie as tie
 

@@ -3,7 +3,7 @@ use Prim.Native.Nat.{_-_}
 use borrow.Author.Needs.{needs}
 use borrow.Author.Tests.{eq-eqb}
 use Rattle.memory.specs.Windows.{windowPage}
-use Rattle.memory.specs.Words.{wordNumber}
+use Rattle.memory.specs.PageWords.{wordNumber}
 use Rattle.memory.proofs.WindowLaws.{start-below, Filling, fill-first, fill-next, fill-last}
 use Rattle.memory.proofs.windows.prg_window.Statement.{statement}
 use Rattle.memory.proofs.windows.prg_window.Tie as tie

@@ -174,7 +174,7 @@ module _ {M : Type 1} (𝓤 : URA M) (H : Heap 𝓤) (A : Atoms 𝓤) (W : Given
           move ! (3 ∷ 4 ∷ 5 ∷ 0 ∷ 6 ∷ 7 ∷ []) $
           prints-line 𝓤 H A W mem run κ₀ κ₂ q₀ q₂ b o (length ys) γ lg e (t .to) (t .n) (t .at) (t .out) f u ! fm known-one room (t .same) (t .to-fits) (at-fits (now s) (now lg) e ys t) (n-small (now s) (now lg) e ys t)
           (λ ν δ. and-then ! (load ! (from ! (stop !)) (look ! 13 refl)) (and-then ! (load ! (from ! (stop !)) (look ! 25 refl)) (and-then ! (load ! (from ! (stop !)) (look ! 23 refl)) (and-then ! (load ! (from ! (stop !)) (look ! 11 refl)) (and-then ! (load ! (from ! (stop !)) (look ! 21 refl)) (and-then ! (load ! (from ! (stop !)) (look ! 31 refl)) (and-then ! (load ! (from ! (stop !)) (look ! 29 refl)) (no-more !))))))))
-          (λ r l long told fits.
+          (λ r l long lined fits.
           -- [out; κ₀; κ₂; the ending; the log; κ₁; the reader; the trace; room for _15; …]
           land ! (from ! (stop !)) (init ! 20 refl (fits .typed)) $
           assigns ! (of-opd ! (load ! (from ! (fld ! refl (stop !))) (look-in ! 20 (sub ! 0 refl (whole !))))) (from ! (stop !)) (store ! 26 refl (tt, record { fits = fits .to })) $
@@ -185,7 +185,7 @@ module _ {M : Type 1} (𝓤 : URA M) (H : Heap 𝓤) (A : Atoms 𝓤) (W : Given
           assigns ! (of-opd ! (load ! (from ! (stop !)) (look ! 26 refl))) (from ! (stop !)) (init ! 38 refl (tt, record { fits = fits .to })) $
           returns ! (look ! 38 refl) $ forget ! 10 refl $ forget ! 12 refl $ forget ! 14 refl $ forget ! 16 refl $ forget ! 18 refl $ forget ! 20 refl $ forget ! 22 refl $ forget ! 24 refl $ forget ! 26 refl $ forget ! 28 refl $ forget ! 30 refl $ forget ! 32 refl $ forget ! 34 refl $ forget ! 36 refl $ forget ! 38 refl $
           move ! (38 ∷ 39 ∷ []) $ free1 ! $ move ! (36 ∷ 37 ∷ []) $ free1 ! $ move ! (34 ∷ 35 ∷ []) $ free1 ! $ move ! (32 ∷ 33 ∷ []) $ free1 ! $ move ! (30 ∷ 31 ∷ []) $ free1 ! $ move ! (28 ∷ 29 ∷ []) $ free1 ! $ move ! (26 ∷ 27 ∷ []) $ free1 ! $ move ! (24 ∷ 25 ∷ []) $ free1 ! $ move ! (22 ∷ 23 ∷ []) $ free1 ! $ move ! (20 ∷ 21 ∷ []) $ free1 ! $ move ! (18 ∷ 19 ∷ []) $ free1 ! $ move ! (16 ∷ 17 ∷ []) $ free1 ! $ move ! (14 ∷ 15 ∷ []) $ free1 ! $ move ! (12 ∷ 13 ∷ []) $ free1 ! $ move ! (10 ∷ 11 ∷ []) $ free1 ! $ move ! (8 ∷ 9 ∷ []) $ free1 ! $ free0 ! $
-          keep ! (0 ∷ 1 ∷ 2 ∷ 3 ∷ 4 ∷ 5 ∷ 7 ∷ []) $ by ! (exits (r .to) l (last-line (now s) (now lg) e ys t f found r l told over) (fits .to) (long ∙ t .same)))
+          keep ! (0 ∷ 1 ∷ 2 ∷ 3 ∷ 4 ∷ 5 ∷ 7 ∷ []) $ by ! (exits (r .to) l (last-line (now s) (now lg) e ys t f found r l lined over) (fits .to) (long ∙ t .same)))
           -- a record follows: the reader moves on
           (λ more. skips ! $ exec ! C Λ En tail (anyQ (Turned t)) $
           assigns ! (of-opd ! (load ! (from ! (stop !)) (look ! 28 refl))) (from ! (stop !)) (init ! 8 refl typed) $ move ! (6 ∷ 5 ∷ []) $
@@ -193,7 +193,7 @@ module _ {M : Type 1} (𝓤 : URA M) (H : Heap 𝓤) (A : Atoms 𝓤) (W : Given
           land ! (from ! (stop !)) (store ! 28 refl typed-next) $
           assigns-last ! (bin ! (load ! (from ! (stop !)) (look ! 24 refl)) (lit ! tt) (record { fits = next-fits (now s) (now lg) e ys t })) (from ! (stop !)) (store ! 24 refl (tt, record { fits = next-fits (now s) (now lg) e ys t })) $
           forget ! 8 refl $ forget ! 10 refl $ forget ! 12 refl $ forget ! 14 refl $ forget ! 16 refl $ forget ! 18 refl $ forget ! 20 refl $ forget ! 22 refl $
-          again ! (Nearer (now s) (now lg) e ys) At t (next-turn (now s) (now lg) e ys t f found r l told more long (fits .to)) (nearer (now s) (now lg) e ys t f found r l told more))))))
+          again ! (Nearer (now s) (now lg) e ys) At t (next-turn (now s) (now lg) e ys t f found r l lined more long (fits .to)) (nearer (now s) (now lg) e ys t f found r l lined more))))))
 
       loop-runs : (t : Turns) → Sq W (At t) (runs C Λ En pieces.t-4 (atRet En Post))
       loop-runs t = first ! $ blocks ! $ loops ! 𝓣 (Nearer (now s) (now lg) e ys) (nearer-wf (now s) (now lg) e ys) At turns t

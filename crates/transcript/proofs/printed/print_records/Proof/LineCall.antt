@@ -117,13 +117,13 @@ module _ {M : Type 1} (𝓤 : URA M) (H : Heap 𝓤) (A : Atoms 𝓤) (W : Given
       move ! (4 ∷ 5 ∷ 6 ∷ 7 ∷ 0 ∷ 2 ∷ []) $ group ! 6 $ use1 W (raw (One 𝓤 H A mem run .pre (to-one ν δ))) (asked ν δ to-fits at-fits small) $ done !
 
   -- what is ensured of a line and the text after it
-  abbrev Told : Line → List ℕ → Type 0
-  Told r l′ = (sheet l′ (r .to) ≡ textWritten (sheet l to) (lineOf f at n (now lg) e)) × ((r .more ≡ goesOn f at e) × (r .next ≡ nextOf f at))
+  abbrev Lined : Line → List ℕ → Type 0
+  Lined r l′ = (sheet l′ (r .to) ≡ textWritten (sheet l to) (lineOf f at n (now lg) e)) × ((r .more ≡ goesOn f at e) × (r .next ≡ nextOf f at))
 
   module _ {K : Type 0} {Γ : List (Item 𝓤)} {En : Env 𝓤 H} {C : Calls 𝓤 H} {Λ : Loops 𝓤 H} {z : Post 𝓤 H} {xs : List Operand} {p : Place} {rest : Body} where
     pub prints-line : K → FmC 𝓤 H (W .laws) C → Triple 𝓤 (C #print-record) (One 𝓤 H A mem run) → Room u8 size → length l ≡ size → to < 2 ^ 64 → at < 2 ^ 64 → n ≤ 8192
         → ((ν : ℕ) (δ : GName) → Opds K W (raw (One 𝓤 H A mem run .pre (to-one ν δ)) ∷ OwnEnding e ∷ OwnSlice κ₂ lg ∷ kept ν δ ∷ Γ) En xs passed)
-        → ((r : Line) (l′ : List ℕ) → length l′ ≡ length l → Told r l′ → Fits r
+        → ((r : Line) (l′ : List ℕ) → length l′ ≡ length l → Lined r l′ → Fits r
         → Seq K W (OwnText κ b o size γ l′ ∷ ‵ (flft κ q) ∷ Alive κ₂ q₂ ∷ OwnEnding e ∷ OwnSlice κ₂ lg ∷ Γ) (lands C Λ En p (L′.lowered r) rest z))
         → Seq K W (OwnText κ b o size γ l ∷ ‵ (flft κ q) ∷ Alive κ₂ q₂ ∷ OwnFound ∷ OwnEnding e ∷ OwnSlice κ₂ lg ∷ Γ) (runs C Λ En (seq (call #print-record xs p) rest) z)
     prints-line t fm known room same to-fits at-fits small os k =
@@ -132,15 +132,15 @@ module _ {M : Type 1} (𝓤 : URA M) (H : Heap 𝓤) (A : Atoms 𝓤) (W : Given
         move t (2 ∷ 3 ∷ 0 ∷ 4 ∷ 5 ∷ 6 ∷ []) $ group t 6 $ use1 W (raw (One 𝓤 H A mem run .pre (to-one ν δ)) ⊛ OwnEnding e ⊛ OwnSlice κ₂ lg) (goes ν δ to-fits at-fits small) $ split t $ move t (1 ∷ []) $ split t $ move t (2 ∷ []) $
         calls-at t fm (One 𝓤 H A mem run) known (to-one ν δ) (os ν δ) (λ w.
         use1 W (later (some (λ (r : Line). ((‵ (flft (ν ∷ []) fullShare) ⊛ Alive κ₂ q₂) ⊛ ‵ (L.the-row .own r (w ∷ []))) ⊛ raw (ensured 𝓤 H A one.ended (one.clauses 𝓤 H A mem run) (ν ∷ [], (κ₂, tt)) (handed δ) tt r)))) (id⊢ 𝓤 _) $ await t tt $ pick t (λ r.
-        split t $ move t (1 ∷ []) $ use1 W (some (λ (ws : Lasts one.ended (ν ∷ [], (κ₂, tt)) (handed δ)). ‵ (lasts one.ended (ν ∷ [], (κ₂, tt)) (handed δ) ws) ⊛ raw (fact 𝓤 (Told r (ws .0))))) (id⊢ 𝓤 _) $ pick t (λ ws.
-        split t $ move t (1 ∷ []) $ heard t (Told r (ws .0)) (λ told. fsplit t $ fsplit t $ move t (1 ∷ []) $ feqL t (λ long.
+        split t $ move t (1 ∷ []) $ use1 W (some (λ (ws : Lasts one.ended (ν ∷ [], (κ₂, tt)) (handed δ)). ‵ (lasts one.ended (ν ∷ [], (κ₂, tt)) (handed δ) ws) ⊛ raw (fact 𝓤 (Lined r (ws .0))))) (id⊢ 𝓤 _) $ pick t (λ ws.
+        split t $ move t (1 ∷ []) $ heard t (Lined r (ws .0)) (λ lined. fsplit t $ fsplit t $ move t (1 ∷ []) $ feqL t (λ long.
         -- [the last list; …; ν and κ₂, and the line; the ending; the log; what is kept of the text; …]
         move t (1 ∷ []) $ drop t $ move t (1 ∷ []) $ split t $ split t $ lft-end t tt $ move t (0 ∷ 6 ∷ 3 ∷ []) $
         use3 W (later (OwnText κ b o size γ (ws .0) ⊛ ‵ (flft κ q))) (returned ν δ (ws .0) room same long) $ await t tt $ split t $ move t (3 ∷ []) $
         -- [the line; the text; κ; κ₂; the ending; the log; …]
         peeks t L.the-row (Is L.the-row) (shows 𝓤 H A L.the-row) r (w ∷ []) (λ is. drop t $
         subst (λ (v : Val). Seq K W (OwnText κ b o size γ (ws .0) ∷ ‵ (flft κ q) ∷ Alive κ₂ q₂ ∷ OwnEnding e ∷ OwnSlice κ₂ lg ∷ Γ) (lands C Λ En p v rest z)) (sym (ap only (LL.tells L.the-type L′.the-laws r _ is)))
-        (k r (ws .0) long told (fitting r w is))))))))))
+        (k r (ws .0) long lined (fitting r w is))))))))))
       where
         fitting : (r : Line) (w : Val) → Is L.the-row r (w ∷ []) → Fits r
         fitting r w is = record {
