@@ -32,10 +32,10 @@ typedef struct mmc5_memory {
 } mmc5_memory;
 
 /* An answer: its value, its letter ('-' 'R' 'S' 'M' 'B', or '!' for a refusal), whether the interrupt is up after the call. */
-#define MMC5_VALUE(told) ((uint8_t)(told))
-#define MMC5_LETTER(told) ((char)((told) >> 8 & 0x7F))
-#define MMC5_INTERRUPT(told) ((told) >> 15 & 1)
-#define MMC5_REFUSED(told) (MMC5_LETTER(told) == '!')
+#define MMC5_VALUE(answer) ((uint8_t)(answer))
+#define MMC5_LETTER(answer) ((char)((answer) >> 8 & 0x7F))
+#define MMC5_INTERRUPT(answer) ((answer) >> 15 & 1)
+#define MMC5_REFUSED(answer) (MMC5_LETTER(answer) == '!')
 
 /* A replay's number: the refusal, 0 where the trace was played to its end; the place of the refused record's kind byte, or the records played. */
 #define MMC5_STOPPED(number) ((uint8_t)((number) >> 16))

@@ -14,9 +14,9 @@ int main(void) {
     for (size_t i = 0; i < sizeof prg; i++) prg[i] = (uint8_t)(i / 1024);
     for (size_t i = 0; i < sizeof chr; i++) chr[i] = (uint8_t)(128 + i / 1024);
     mmc5_memory m = {prg, sizeof prg, chr, sizeof chr, ram, sizeof ram, ciram, sizeof ciram, exram, sizeof exram};
-    uint32_t told = mmc5_on_load(&state, &m, 0, 0);
-    if (MMC5_REFUSED(told)) {
-        printf("load ! %d\n", MMC5_VALUE(told));
+    uint32_t answer = mmc5_on_load(&state, &m, 0, 0);
+    if (MMC5_REFUSED(answer)) {
+        printf("load ! %d\n", MMC5_VALUE(answer));
         return 1;
     }
     size_t length = fread(trace, 1, sizeof trace, stdin);
@@ -33,12 +33,12 @@ int main(void) {
         int kind = trace[at++];
         /* The last byte of a number is below 128. */
         for (int left = numbers[kind]; left > 0;) left -= trace[at++] < 128;
-        told = MMC5_LOGGED(log_bytes, count);
-        char letter = MMC5_LETTER(told);
+        answer = MMC5_LOGGED(log_bytes, count);
+        char letter = MMC5_LETTER(answer);
         if (letter == '-' || letter == 'B')
-            printf("%u %d %c %d\n", count, kind, letter, (int)MMC5_INTERRUPT(told));
+            printf("%u %d %c %d\n", count, kind, letter, (int)MMC5_INTERRUPT(answer));
         else
-            printf("%u %d %c %d %d\n", count, kind, letter, MMC5_VALUE(told), (int)MMC5_INTERRUPT(told));
+            printf("%u %d %c %d %d\n", count, kind, letter, MMC5_VALUE(answer), (int)MMC5_INTERRUPT(answer));
     }
     if (refusal == 0)
         printf("end %u\n", (unsigned)MMC5_PLACE(number));

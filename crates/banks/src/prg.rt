@@ -77,11 +77,11 @@ pub fn map_prg(
 {
     let unlocked = registers::unlocked(regs);
     let mode = regs.prg_mode;
-    let shows = values(mode, banks);
+    let chosen = values(mode, banks);
     let mut next = pages;
     let mut i: usize = 0;
     while i < 5 {
-        let value = shows[i];
+        let value = chosen[i];
         let words = value_pages(lengths.prg, lengths.ram, unlocked, value);
         let at = 24 + 8 * i;
         next[at] = words[0];

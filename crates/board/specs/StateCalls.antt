@@ -10,8 +10,8 @@ use Rattle.state.specs.declared.State.{State}
 use Rattle.state.specs.Ranges.{inRange}
 use Rattle.state.specs.With.{withRegs, withIrq, withPpu}
 use Rattle.cpu.specs.PpuRegisters.{statusAfter, detectorAfter}
-use Rattle.board.specs.declared.Interrupt.{Interrupt}
-use Rattle.board.specs.declared.Interrupt.the-variants.{Up, Down, Refused as InterruptRefused}
+use Rattle.board.specs.declared.InterruptAnswer.{InterruptAnswer}
+use Rattle.board.specs.declared.InterruptAnswer.the-variants.{Up, Down, Refused as InterruptRefused}
 use Rattle.board.specs.declared.Outcome.{Outcome}
 use Rattle.board.specs.declared.MirroringAnswer.{MirroringAnswer}
 use Rattle.board.specs.declared.MirroringAnswer.the-variants.{Is, Refused}
@@ -25,7 +25,7 @@ unfoldable pub mirroringCall : State → MirroringAnswer
 mirroringCall s = pick (not (inRange s)) (Refused StateBroken) (Is (s .screen .mirroring))
 
 -- Demand 3: "The interrupt is up exactly when the flag is set and the last write to $5204 had bit 7 set."
-unfoldable pub interruptCall : State → Interrupt
+unfoldable pub interruptCall : State → InterruptAnswer
 interruptCall s = pick (not (inRange s)) (InterruptRefused StateBroken) (pick (interruptUp (s .irq)) Up Down)
 
 -- 01, "Fetches, runs, breaks": a clock moves the detector alone.

@@ -26,7 +26,7 @@ pub enum MirroringAnswer {
 }
 
 // What `interrupt_up` tells.
-pub enum Interrupt {
+pub enum InterruptAnswer {
     Up,
     Down,
     Refused(Refusal),

@@ -1,7 +1,7 @@
 // Calls on the state alone: reset, mirroring, and whether the interrupt is up.
 ghost use mathlib.Core.Path.{_≡_};
 ghost use Rattle.board.specs.StateCalls.{resetCall, mirroringCall, interruptCall};
-use crate::Interrupt;
+use crate::InterruptAnswer;
 use crate::MirroringAnswer;
 use crate::Outcome;
 use crate::refuse;
@@ -38,13 +38,17 @@ pub fn mirroring(s: State) -> MirroringAnswer
     MirroringAnswer::Is(mirroring)
 }
 
-pub fn interrupt_up(s: State) -> Interrupt
+pub fn interrupt_up(s: State) -> InterruptAnswer
     ensures { λ r. ⌜ r ≡ interruptCall s ⌝ }
 {
     let ok = state::ranges::in_range(s);
     if !ok {
-        return Interrupt::Refused(Refusal::State);
+        return InterruptAnswer::Refused(Refusal::State);
     }
     let up = scanline::interrupt_up(s.irq);
-    if up { Interrupt::Up } else { Interrupt::Down }
+    if up {
+        InterruptAnswer::Up
+    } else {
+        InterruptAnswer::Down
+    }
 }

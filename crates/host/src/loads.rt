@@ -7,8 +7,8 @@ ghost use Rattle.board.specs.Loads.{loadCall};
 ghost use Rattle.host_state.specs.Words.{mirroringNumbered};
 ghost use Rattle.host.specs.Hosted.{leftWords, leavingWords};
 use board::loads::Settings;
-use host_state::full_state;
 use host_state::read;
+use host_state::whole_state;
 
 // CHR is writable where the byte is not 0; mirroring is 0 to 4, and 4 stands for what is above. What the words held does not matter. A refused
 // load leaves the zero state.
@@ -34,6 +34,6 @@ pub extern "C" fn mmc5_load(
     let answer = o.answer;
     let t = o.state;
     let irq = t.irq;
-    full_state::put_state(t, words);
+    whole_state::put_state(t, words);
     host_answers::with_interrupt(answer, irq)
 }

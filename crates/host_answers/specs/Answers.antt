@@ -1,4 +1,4 @@
--- What the host is answered, as one number.
+-- The one number that a host gets for an answer.
 use Prim.Native.Nat.{ℕ, _+_, _*_}
 use mathlib.Core.Bool.{Bool, _&&_, not}
 use Rattle.memory.specs.Tests.{pick}
@@ -6,8 +6,8 @@ use Rattle.answers.specs.declared.Answer.{Answer}
 use Rattle.answers.specs.declared.Answer.the-variants.{Refused}
 use Rattle.answers.specs.Letters.{letterOf, valueOf}
 use Rattle.answers.specs.Refused.{isRefused}
-use Rattle.board.specs.declared.Interrupt.{Interrupt}
-use Rattle.board.specs.declared.Interrupt.the-variants.{Up, Down, Refused as InterruptRefused}
+use Rattle.board.specs.declared.InterruptAnswer.{InterruptAnswer}
+use Rattle.board.specs.declared.InterruptAnswer.the-variants.{Up, Down, Refused as InterruptRefused}
 use Rattle.board.specs.declared.MirroringAnswer.{MirroringAnswer}
 use Rattle.board.specs.declared.MirroringAnswer.the-variants.{Is, Refused as MirroringRefused}
 use Rattle.scanline.specs.declared.Detector.{Detector}
@@ -32,7 +32,7 @@ answerMirroring (Is m) = numberOfMirroring m
 answerMirroring (MirroringRefused r) = answerPlain (Refused r)
 
 -- 1 where the interrupt is up, 0 where it is down, or a refusal.
-abbrev pub answerInterrupt : Interrupt → ℕ
+abbrev pub answerInterrupt : InterruptAnswer → ℕ
 answerInterrupt Up = 1
 answerInterrupt Down = 0
 answerInterrupt (InterruptRefused r) = answerPlain (Refused r)

@@ -1,8 +1,8 @@
-// What the host is answered, as one number: the part that the static libraries of the single calls and of the looks share.
+// The one number that a host gets for an answer: what the crates of the single calls and of the looks share.
 ghost use mathlib.Core.Path.{_≡_};
 ghost use Rattle.host_answers.specs.Answers.{answerPlain, taken, answerWithInterrupt, answerMirroring, answerInterrupt};
 use answers::Answer;
-use board::Interrupt;
+use board::InterruptAnswer;
 use board::MirroringAnswer;
 use scanline::Detector;
 
@@ -52,12 +52,12 @@ pub fn mirroring(answer: MirroringAnswer) -> u32
     }
 }
 
-pub fn interrupt(answer: Interrupt) -> u32
+pub fn interrupt(answer: InterruptAnswer) -> u32
     ensures { λ r. ⌜ r ≡ answerInterrupt answer ⌝ }
 {
     match answer {
-        Interrupt::Up => 1,
-        Interrupt::Down => 0,
-        Interrupt::Refused(r) => plain(Answer::Refused(r)),
+        InterruptAnswer::Up => 1,
+        InterruptAnswer::Down => 0,
+        InterruptAnswer::Refused(r) => plain(Answer::Refused(r)),
     }
 }

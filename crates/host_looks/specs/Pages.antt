@@ -36,7 +36,7 @@ entryNumber p = sourceNumber (p .src) * 65536 + withinBuffer (p .index) (p .writ
 abbrev pub noEntry : ℕ
 noEntry = letterOf (Refused StateBroken) * 65536 + valueOf (Refused StateBroken)
 
--- The entry that is answered of words that stand for a state in range.
+-- The entry's number, of words that stand for a state in range.
 unfoldable pub entryOn : List ℕ → (State → Page) → ℕ
 entryOn w f = pick (inRange (stateOf w)) (entryNumber (f (stateOf w))) noEntry
 

@@ -8,9 +8,9 @@ ghost use Rattle.cpu.specs.Writes.{prgWordAt};
 ghost use Rattle.board_ppu.specs.Peeks.{chrWordAt};
 ghost use Rattle.views.specs.Views.{cpuView, ppuView};
 ghost use Rattle.host_looks.specs.Pages.{withinBuffer, entryNumber, noEntry, entryOn, copied, copiedOf, copyOn};
-use host_state::full_state;
 use host_state::gate;
 use host_state::tables;
+use host_state::whole_state;
 use memory::CpuAddr;
 use memory::Page;
 use memory::PpuAddr;
@@ -102,7 +102,7 @@ pub extern "C" fn mmc5_cpu_page<'a>(
 ) -> u32
     ensures { λ r. ⌜ copiedOf r (now (out .exit)) ≡ copyOn (now (words .entry)) (λ (s : State). cpuView s (memOf (now (prg .entry)) (now (chr .entry)) (now (ram .entry)) (now (ciram .entry)) (now (exram .entry))) addr) (now (out .entry)) ⌝ }
 {
-    let s = full_state::state_of(words);
+    let s = whole_state::state_of(words);
     let part = views::cpu_view(s, prg, chr, ram, ciram, exram, CpuAddr(addr));
     copy(part, out)
 }
@@ -121,7 +121,7 @@ pub extern "C" fn mmc5_ppu_page(
 ) -> u32
     ensures { λ r. ⌜ copiedOf r (now (out .exit)) ≡ copyOn (now (words .entry)) (λ (s : State). ppuView s (memOf (now (prg .entry)) (now (chr .entry)) (now (ram .entry)) (now (ciram .entry)) (now (exram .entry))) addr) (now (out .entry)) ⌝ }
 {
-    let s = full_state::state_of(words);
+    let s = whole_state::state_of(words);
     let part = views::ppu_view(s, prg, chr, ram, ciram, exram, PpuAddr(addr));
     copy(part, out)
 }

@@ -6,7 +6,7 @@ ghost use Rattle.board.specs.CpuSide.{cpuPeek};
 ghost use Rattle.board_ppu.specs.Peeks.{ppuPeek, spritePeek};
 ghost use Rattle.host_answers.specs.Answers.{answerPlain};
 ghost use Rattle.host_looks.specs.Looks.{lookOn};
-use host_state::full_state;
+use host_state::whole_state;
 use memory::CpuAddr;
 use memory::PpuAddr;
 
@@ -23,7 +23,7 @@ pub extern "C" fn mmc5_cpu_peek(
 ) -> u32
     ensures { λ r. ⌜ r ≡ lookOn (now (words .entry)) answerPlain (λ (s : State). cpuPeek s (memOf (now (prg .entry)) (now (chr .entry)) (now (ram .entry)) (now (ciram .entry)) (now (exram .entry))) addr) ⌝ }
 {
-    let s = full_state::state_of(words);
+    let s = whole_state::state_of(words);
     let answer = board::cpu_side::cpu_peek(s, prg, chr, ram, ciram, exram, CpuAddr(addr));
     host_answers::plain(answer)
 }
@@ -41,7 +41,7 @@ pub extern "C" fn mmc5_ppu_peek(
 ) -> u32
     ensures { λ r. ⌜ r ≡ lookOn (now (words .entry)) answerPlain (λ (s : State). ppuPeek s (memOf (now (prg .entry)) (now (chr .entry)) (now (ram .entry)) (now (ciram .entry)) (now (exram .entry))) addr) ⌝ }
 {
-    let s = full_state::state_of(words);
+    let s = whole_state::state_of(words);
     let answer = board_ppu::peeks::ppu_peek(s, prg, chr, ram, ciram, exram, PpuAddr(addr));
     host_answers::plain(answer)
 }
@@ -59,7 +59,7 @@ pub extern "C" fn mmc5_sprite_peek(
 ) -> u32
     ensures { λ r. ⌜ r ≡ lookOn (now (words .entry)) answerPlain (λ (s : State). spritePeek s (memOf (now (prg .entry)) (now (chr .entry)) (now (ram .entry)) (now (ciram .entry)) (now (exram .entry))) addr) ⌝ }
 {
-    let s = full_state::state_of(words);
+    let s = whole_state::state_of(words);
     let answer = board_ppu::peeks::sprite_peek(s, prg, chr, ram, ciram, exram, PpuAddr(addr));
     host_answers::plain(answer)
 }

@@ -5,7 +5,7 @@ ghost use Rattle.board.specs.StateCalls.{mirroringCall, interruptCall};
 ghost use Rattle.host_answers.specs.Answers.{answerMirroring, answerInterrupt};
 ghost use Rattle.host_looks.specs.Looks.{lookOn};
 use answers::Refusal;
-use board::Interrupt;
+use board::InterruptAnswer;
 use board::MirroringAnswer;
 use host_state::gate;
 use host_state::read;
@@ -28,11 +28,11 @@ pub extern "C" fn mmc5_interrupt(words: &[u16; 144]) -> u32
     ensures { λ r. ⌜ r ≡ lookOn (now (words .entry)) answerInterrupt (λ (s : State). interruptCall s) ⌝ }
 {
     if !gate::in_range(words) {
-        return host_answers::interrupt(Interrupt::Refused(Refusal::State));
+        return host_answers::interrupt(InterruptAnswer::Refused(Refusal::State));
     }
     let irq = read::detector_of(words);
     if scanline::interrupt_up(irq) {
-        return host_answers::interrupt(Interrupt::Up);
+        return host_answers::interrupt(InterruptAnswer::Up);
     }
-    host_answers::interrupt(Interrupt::Down)
+    host_answers::interrupt(InterruptAnswer::Down)
 }

@@ -6,8 +6,8 @@ ghost use Rattle.memory.specs.Bytes.{memOf};
 ghost use Rattle.host_replay.specs.Promise.{ReplayPromised};
 ghost use Rattle.host_replay.specs.Replays.{endingNumber, lastOf, leftReplay, replayOn};
 use answers::Refusal;
-use host_state::full_state;
 use host_state::gate;
+use host_state::whole_state;
 use player::Ending;
 use state::gate::Gate;
 
@@ -52,11 +52,11 @@ pub extern "C" fn mmc5_replay(
     if let Gate::Shut(refusal) = gate {
         return ending_number(Ending::Stopped(0, refusal));
     }
-    let s = full_state::state_of(words);
+    let s = whole_state::state_of(words);
     let o = player::replay(s, trace, prg, chr, ram, ciram, exram, log);
     let ending = o.ending;
     let t = o.state;
-    full_state::put_state(t, words);
+    whole_state::put_state(t, words);
     ending_number(ending)
 }
 

@@ -2,12 +2,12 @@
 // meaning and one limit (specs/Words.antt).
 ghost use Rattle.host_state.specs.Promise.{WordsAndStates};
 
-pub mod full_state;
 pub mod gate;
 pub mod groups;
 pub mod limits;
 pub mod read;
 pub mod tables;
+pub mod whole_state;
 
 // No code: its contract holds that words and states stand for each other.
 pub fn promises()

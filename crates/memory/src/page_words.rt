@@ -1,4 +1,4 @@
-// Page words: made from a page and taken apart again, and the place that a word and an address name.
+// Page words: made from a page and taken apart again, and the place that a word and an offset in its page name.
 // Nothing above this crate looks at a word's digits: specs/PageWords.antt says which word names which page, and proofs/WordLaws.antt
 // that taking apart undoes making.
 ghost use mathlib.Core.Path.{_≡_};

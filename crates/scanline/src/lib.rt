@@ -175,7 +175,7 @@ pub fn status(d: Detector) -> u8
     0
 }
 
-// Nothing more is stored for it: the Rust's `regs.irq_pending` is this (crate `theorems_lines`).
+// Nothing more is stored for it: the Rust's `regs.irq_pending` is this (crate `theorems_scanlines`).
 pub fn interrupt_up(d: Detector) -> bool
     ensures { λ r. ⌜ r ≡ interruptUp d ⌝ }
 {

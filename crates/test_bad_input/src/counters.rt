@@ -4,17 +4,17 @@ ghost use Prim.Native.Nat.{_≤_};
 use crate::lengths;
 use crate::lent;
 use crate::print_answer;
-use print::say;
-use print::say_number;
+use print::print_number;
+use print::print_text;
 use state::State;
 
 fn shown(line: u16, tile: u32, addr: u16) {
-    say(b"line ");
-    say_number(line as u64);
-    say(b", tile ");
-    say_number(tile as u64);
-    say(b", fetch ");
-    say_number(addr as u64);
+    print_text(b"line ");
+    print_number(line as u64);
+    print_text(b", tile ");
+    print_number(tile as u64);
+    print_text(b", fetch ");
+    print_number(addr as u64);
 }
 
 fn fetched(s: State, addr: u16) -> State {

@@ -3,8 +3,8 @@
 ghost use Prim.Native.Nat.{_≤_};
 ghost use lib.ListN.{length};
 use answers::Answer;
-use print::say;
-use print::say_number;
+use print::print_number;
+use print::print_text;
 use state::State;
 
 mod broken;
@@ -15,12 +15,12 @@ mod lent;
 // What a call got, as the end of a line.
 pub fn print_answer(answer: Answer) {
     if let Answer::Refused(refusal) = answer {
-        say(b": ");
-        say_number(answers::number_of(refusal) as u64);
-        say(b"\n");
+        print_text(b": ");
+        print_number(answers::number_of(refusal) as u64);
+        print_text(b"\n");
         return;
     }
-    say(b": taken\n");
+    print_text(b": taken\n");
 }
 
 // Where the line ends that holds a place.
@@ -60,7 +60,7 @@ fn tries(labels: &[u8], s: State) {
     let mut at = 0;
     while at < labels.len() {
         let end = line_end(labels, at);
-        say(&labels[at..end]);
+        print_text(&labels[at..end]);
         tried(s, n);
         if n == 255 {
             return;
@@ -72,8 +72,8 @@ fn tries(labels: &[u8], s: State) {
 
 // What was called, and where.
 fn address(label: &[u8], addr: u16) {
-    say(label);
-    say_number(addr as u64);
+    print_text(label);
+    print_number(addr as u64);
 }
 
 // A read, a peek and a write, over buffers of the recorded lengths.

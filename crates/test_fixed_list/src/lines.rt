@@ -1,19 +1,19 @@
 // The lines of `replay`, written by the crate `text` and printed. 01, "Trace": "One line per record: record number, kind, answer, interrupt 0 or 1."
 use answers::Answer;
 use answers::Refusal;
-use board::Interrupt;
-use print::say;
-use print::say_first;
-use print::say_number;
+use board::InterruptAnswer;
+use print::print_first;
+use print::print_number;
+use print::print_text;
 use state::State;
 
 // The letter of an answer, with 128 more where the interrupt is up; a letter that no line has where it cannot be told.
-fn first_byte(a: Answer, i: Interrupt) -> u8 {
+fn first_byte(a: Answer, i: InterruptAnswer) -> u8 {
     let letter = answers::letter_of(a) % 128;
     match i {
-        Interrupt::Up => letter + 128,
-        Interrupt::Down => letter,
-        Interrupt::Refused(_) => b'?',
+        InterruptAnswer::Up => letter + 128,
+        InterruptAnswer::Down => letter,
+        InterruptAnswer::Refused(_) => b'?',
     }
 }
 
@@ -22,12 +22,12 @@ pub fn call(number: u32, kind: u8, a: Answer, s: State) -> bool {
     let mut out = [0u8; 32];
     if let Answer::Refused(why) = a {
         let n = text::lines::refused_line(&mut out, 0, number, kind, why);
-        say_first(&out, n);
+        print_first(&out, n);
         return false;
     }
     let first = first_byte(a, board::state_calls::interrupt_up(s));
     let n = text::lines::logged_line(&mut out, 0, number, kind, first, answers::value_of(a));
-    say_first(&out, n);
+    print_first(&out, n);
     true
 }
 
@@ -35,18 +35,18 @@ pub fn call(number: u32, kind: u8, a: Answer, s: State) -> bool {
 pub fn unreadable(number: u32, why: Refusal) {
     let mut out = [0u8; 32];
     let n = text::lines::unreadable_line(&mut out, 0, number, why);
-    say_first(&out, n);
+    print_first(&out, n);
 }
 
 pub fn end(count: u32) {
     let mut out = [0u8; 32];
     let n = text::lines::end_line(&mut out, 0, count);
-    say_first(&out, n);
+    print_first(&out, n);
 }
 
 // The line of a refused load.
 pub fn load_refused(why: Refusal) {
-    say(b"load ");
-    say_number(answers::number_of(why) as u64);
-    say(b"\n");
+    print_text(b"load ");
+    print_number(answers::number_of(why) as u64);
+    print_text(b"\n");
 }

@@ -60,19 +60,19 @@ fn play_case(
     let c = head.chr;
     let r = head.ram;
     if prg.len() < p {
-        print::say(b"large\n");
+        print::print_text(b"large\n");
         return;
     }
     if chr.len() < c {
-        print::say(b"large\n");
+        print::print_text(b"large\n");
         return;
     }
     if ram.len() < r {
-        print::say(b"large\n");
+        print::print_text(b"large\n");
         return;
     }
     if too_long(trace.len()) {
-        print::say(b"? 11\n");
+        print::print_text(b"? 11\n");
         return;
     }
     play_over(
@@ -90,14 +90,14 @@ fn first_case(rest: &[u8], prg: &mut [u8], chr: &mut [u8], ram: &mut [u8]) -> us
     ensures { λ r. ⌜ r ≤ length (now (rest .entry)) ⌝ }
 {
     if rest.len() < head::LENGTH {
-        print::say(b"cut\n");
+        print::print_text(b"cut\n");
         return 0;
     }
     let h = head::head_of(rest);
     let end = head::LENGTH + h.trace;
     let last = head::last_of(rest, h.kind, end);
     if rest.len() < last {
-        print::say(b"cut\n");
+        print::print_text(b"cut\n");
         return 0;
     }
     let trace = &rest[head::LENGTH..end];

@@ -6,7 +6,7 @@ use crate::lines;
 use answers::Answer;
 use memory::CpuAddr;
 use memory::PpuAddr;
-use print::say;
+use print::print_text;
 use state::State;
 
 // 0 is the CPU's peek, 1 the PPU's, 2 the sprites'.
@@ -43,7 +43,7 @@ fn peek_at(
     let which = peeks[at - 2];
     let addr = two(peeks[at - 1], peeks[at]) as u16;
     let answer = peek(which, addr, s, prg, chr, ram, ciram, exram);
-    say(b"peek ");
+    print_text(b"peek ");
     lines::call(addr as u32, which, answer, s);
 }
 

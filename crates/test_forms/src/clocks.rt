@@ -3,8 +3,8 @@ ghost use mathlib.Core.Path.{_≡_};
 ghost use Rattle.scanline.specs.Clock.{clockOutcome};
 use answers::Answer;
 use memory::PpuAddr;
-use print::say;
-use print::say_number;
+use print::print_number;
+use print::print_text;
 use scanline::record::ClockOutcome;
 use scanline::record::ClockRecord;
 
@@ -18,18 +18,18 @@ fn lent(r: ClockRecord) -> ClockOutcome
 }
 
 fn flag(label: &[u8], up: bool) {
-    say(label);
+    print_text(label);
     if up {
-        say(b" 1");
+        print_text(b" 1");
     } else {
-        say(b" 0");
+        print_text(b" 0");
     }
 }
 
 fn shown(r: ClockRecord) {
     flag(b"reading", r.reading);
-    say(b", idle ");
-    say_number(r.idle_count as u64);
+    print_text(b", idle ");
+    print_number(r.idle_count as u64);
     flag(b", in frame", r.in_frame);
     flag(b", previous", r.prev_some);
 }
@@ -41,11 +41,11 @@ fn clocked(r: ClockRecord) -> ClockRecord {
     let answer = o.answer;
     shown(after);
     if let Answer::Refused(why) = answer {
-        say(b": ");
-        say_number(answers::number_of(why) as u64);
-        say(b"\n");
+        print_text(b": ");
+        print_number(answers::number_of(why) as u64);
+        print_text(b"\n");
     } else {
-        say(b": taken\n");
+        print_text(b": taken\n");
     }
     after
 }

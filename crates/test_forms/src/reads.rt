@@ -1,8 +1,8 @@
 // The reader of a trace. A line for each record: its place, and its kind, the end or a refusal.
 ghost use mathlib.Core.Path.{_≡_};
 ghost use Rattle.trace.specs.Records.{recordAt};
-use print::say;
-use print::say_number;
+use print::print_number;
+use print::print_text;
 use trace::Found;
 
 // What stands at a place of a trace. The reader is made, set to the place and asked; no function that has a struct with a reference is covered, so
@@ -20,23 +20,23 @@ struct Turn {
 
 // The line of what stands at a place; whether the reader goes on, and where.
 fn print_record(at: usize, found: Found) -> Turn {
-    say(b"place ");
-    say_number(at as u64);
+    print_text(b"place ");
+    print_number(at as u64);
     match found {
         Found::End => {
-            say(b": end\n");
+            print_text(b": end\n");
             Turn { going: false, at }
         }
         Found::Refused(why) => {
-            say(b": refused ");
-            say_number(answers::number_of(why) as u64);
-            say(b"\n");
+            print_text(b": refused ");
+            print_number(answers::number_of(why) as u64);
+            print_text(b"\n");
             Turn { going: false, at }
         }
         Found::Record(call, next) => {
-            say(b": kind ");
-            say_number(trace::kind_of(call) as u64);
-            say(b"\n");
+            print_text(b": kind ");
+            print_number(trace::kind_of(call) as u64);
+            print_text(b"\n");
             Turn {
                 going: true,
                 at: next,
@@ -59,7 +59,7 @@ fn read(trace: &[u8]) {
 
 // The first record alone.
 fn first(trace: &[u8]) {
-    say(b"first, ");
+    print_text(b"first, ");
     print_record(0, trace::reader::first_record(trace));
 }
 

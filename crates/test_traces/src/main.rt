@@ -16,7 +16,7 @@ fn two(low: u8, high: u8) -> usize
 fn print_trace(trace: &[u8]) {
     let mut out = [0u8; 131072];
     let length = transcript::cartridge::transcribe(&mut out, trace);
-    print::say_first(&out, length);
+    print::print_first(&out, length);
 }
 
 // Plays the case at the start of `rest`; how many bytes it takes, 0 where it is cut.

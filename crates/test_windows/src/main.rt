@@ -2,8 +2,8 @@
 // buffer, or `blank`. The file `stdout` is what the Rust's own `map_prg` and `map_chr` gave (oracle/fixed/windows.answers).
 use memory::PageWord;
 use memory::Src;
-use print::say;
-use print::say_number;
+use print::print_number;
+use print::print_text;
 
 const PRG_LENGTHS: [u32; 13] = [
     0,
@@ -30,20 +30,20 @@ fn say_page(word: PageWord) {
     let page = memory::page_words::page_of(word);
     let src = page.src;
     if let Src::Blank = src {
-        say(b" blank");
+        print_text(b" blank");
     } else {
-        say(b" ");
-        say_number(page.index as u64);
+        print_text(b" ");
+        print_number(page.index as u64);
     }
 }
 
 fn say_head(window: u32, len: u32, bank: u32) {
-    say_number(window as u64);
-    say(b" ");
-    say_number(len as u64);
-    say(b" ");
-    say_number(bank as u64);
-    say(b":");
+    print_number(window as u64);
+    print_text(b" ");
+    print_number(len as u64);
+    print_text(b" ");
+    print_number(bank as u64);
+    print_text(b":");
 }
 
 fn prg_line(len: u32, bank: u32) {
@@ -58,14 +58,14 @@ fn prg_line(len: u32, bank: u32) {
     say_page(pages[5]);
     say_page(pages[6]);
     say_page(pages[7]);
-    say(b"\n");
+    print_text(b"\n");
 }
 
 fn chr_line(len: u32, bank: u32) {
     let page = memory::windows::chr_window(Src::Chr, len, bank, false);
     say_head(1024, len, bank);
     say_page(page);
-    say(b"\n");
+    print_text(b"\n");
 }
 
 fn prg_lines(len: u32) {

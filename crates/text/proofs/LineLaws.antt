@@ -1,4 +1,4 @@
--- Laws of lines: written word by word; and the two bytes of an answer print as the answer does.
+-- Laws of lines: written piece by piece; and the two bytes of an answer print as the answer does.
 use Prim.Native.Nat.{ℕ, _+_, _*_}
 use mathlib.Core.Bool.{Bool, true, false}
 use mathlib.Core.List.{List, [], _∷_, _++_}

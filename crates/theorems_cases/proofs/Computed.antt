@@ -42,7 +42,7 @@ use Rattle.board.specs.CpuSide.{cpuRead, cpuWrite}
 use Rattle.board.specs.StateCalls.{clockCall, ppuRegisterCall}
 use Rattle.board_ppu.specs.Fetch.{countedCall, ppuFetch}
 use Rattle.board_ppu.specs.Peeks.{chrAnswer}
-use Rattle.theorems_lines.specs.Promise.Played.{at-load, taken}
+use Rattle.theorems_scanlines.specs.Promise.Played.{at-load, taken}
 use Rattle.theorems_promises.specs.Loading.{goodPrg, goodChr, goodRam}
 use Rattle.theorems_promises.proofs.Loadings.{load-refusals}
 use Rattle.theorems_histories.specs.Boards.{Board, Made, says, leaves, boardAfter, number, numberIn}

@@ -24,10 +24,10 @@ use Rattle.board.specs.Loads.{loadedState}
 use Rattle.board_ppu.specs.Fetch.{patternCall}
 use Rattle.trace.specs.declared.Call.{Call}
 use Rattle.trace.specs.declared.Call.the-variants.{Clock, CpuRead, CpuWrite, PpuRegister, PpuFetch, Reset, PpuWrite}
-use Rattle.theorems_lines.specs.Machine.{Watched, watched, tilesBy}
-use Rattle.theorems_lines.specs.Promise.{historyOf}
-use Rattle.theorems_lines.specs.Promise.Played.{at-load, taken}
-use Rattle.theorems_lines.proofs.Transfer.{run-is}
+use Rattle.theorems_scanlines.specs.Machine.{Watched, watched, tilesBy}
+use Rattle.theorems_scanlines.specs.Promise.{historyOf}
+use Rattle.theorems_scanlines.specs.Promise.Played.{at-load, taken}
+use Rattle.theorems_scanlines.proofs.Transfer.{run-is}
 use Rattle.theorems_histories.specs.Accepted.{refusal}
 use Rattle.theorems_histories.specs.Boards.{Board, Made, says, leaves, number}
 use Rattle.theorems_histories.specs.Boards.Made.{call, peek, ppu-peek, sprite-peek, mirroring-asked, interrupt-asked, cpu-page, ppu-page}

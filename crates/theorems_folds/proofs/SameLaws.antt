@@ -35,7 +35,7 @@ use Rattle.views.specs.Views.{cpuView, ppuView}
 use Rattle.trace.specs.declared.Call.{Call}
 use Rattle.trace.specs.declared.Call.the-variants.{Clock, CpuRead, CpuWrite, PpuRegister, PpuFetch, Reset, PpuWrite}
 use Rattle.calls.specs.Called.{called}
-use Rattle.theorems_lines.specs.Machine.{raisedFull}
+use Rattle.theorems_scanlines.specs.Machine.{raisedFull}
 use Rattle.theorems_promises.proofs.Gates.{in-range-of}
 use Rattle.theorems_histories.specs.Accepted.{refusal}
 use Rattle.theorems_histories.specs.Boards.{Board, Made, says, leaves}

@@ -14,8 +14,8 @@ use Rattle.cpu.specs.Groups.{splitAfter, irqAfter}
 use Rattle.cpu.specs.Writes.{registerWritten}
 use Rattle.ppu.specs.Fetches.{splitSeen}
 use Rattle.board.specs.Loads.{loadedState, loadCall}
-use Rattle.theorems_lines.specs.Machine.{step, run, tilesBy, watched}
-use Rattle.theorems_lines.specs.Promise.{historyOf}
+use Rattle.theorems_scanlines.specs.Machine.{step, run, tilesBy, watched}
+use Rattle.theorems_scanlines.specs.Promise.{historyOf}
 use Rattle.theorems_histories.specs.Accepted.{refusal, acceptable}
 use Rattle.theorems_histories.specs.Boards.{Board}
 use Rattle.theorems_histories.specs.Histories.{Load, first, event}

@@ -4,14 +4,14 @@ use Prim.Native.Nat.{ℕ, _+_, _%_, _<_, _≤_}
 use mathlib.Core.List.{List}
 use mathlib.Core.Path.{_≡_}
 use Rattle.scanline.specs.Tiles.{fold, columnOf}
-use Rattle.theorems_lines.specs.Machine.{watched}
-use Rattle.theorems_lines.specs.Promise.{historyOf}
+use Rattle.theorems_scanlines.specs.Machine.{watched}
+use Rattle.theorems_scanlines.specs.Promise.{historyOf}
 use Rattle.theorems_histories.specs.Boards.{Board, Made, says, number}
 use Rattle.theorems_histories.specs.Histories.{Load, first, Reached, view, event}
 use Rattle.theorems_folds.specs.Full.{keptBoard, fullSays, fullAfter}
 
 pub record AlongFull : Type 0 where
-  -- the calls alone tell the detector and the full count (crate `theorems_lines`, specs/Machine.antt), and the state's tile count is its fold
+  -- the calls alone tell the detector and the full count (crate `theorems_scanlines`, specs/Machine.antt), and the state's tile count is its fold
   pub detector : (l : Load) (cs : List Made) (b : Board) → Reached l cs b → view b ≡ watched (historyOf event cs) .detector
   pub tiles : (l : Load) (cs : List Made) (b : Board) → Reached l cs b → b .state .ppu .«tile_number» ≡ fold (watched (historyOf event cs) .tiles)
   -- the state, its page tables and the memory are those that a board leaves which counts on without an end: all of it, and of its count the fold

@@ -24,14 +24,14 @@ use Rattle.cpu.specs.Writes.{prgWordAt}
 use Rattle.ppu.specs.Fetches.{cacheAfter, splitSeen}
 use Rattle.ppu.specs.Served.{countedServed, patternServed, spriteByte}
 use Rattle.board.specs.declared.Outcome.{Outcome}
-use Rattle.board.specs.declared.Interrupt.the-variants.{Up, Down}
+use Rattle.board.specs.declared.InterruptAnswer.the-variants.{Up, Down}
 use Rattle.board.specs.declared.MirroringAnswer.the-variants.{Is}
 use Rattle.board.specs.Outcomes.{outcome, After}
 use Rattle.board_ppu.specs.Fetch.{countedIrq, patternCall}
 use Rattle.board_ppu.specs.Peeks.{chrWordAt, chrAnswer}
 use Rattle.views.specs.Views.{cpuShows, ppuShows}
 use Rattle.trace.specs.declared.Call.{Call}
-use Rattle.theorems_lines.specs.Machine.{raisedFull}
+use Rattle.theorems_scanlines.specs.Machine.{raisedFull}
 use Rattle.theorems_histories.specs.Boards.{Board, Made, Said}
 use Rattle.theorems_histories.specs.Boards.Made.{call, peek, ppu-peek, sprite-peek, mirroring-asked, interrupt-asked, cpu-page, ppu-page}
 use Rattle.theorems_histories.specs.Boards.Said.{answers, mirrors, interrupts, shows}

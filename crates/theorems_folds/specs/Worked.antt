@@ -6,8 +6,8 @@ use Prim.Native.Nat.{ℕ}
 use mathlib.Core.Bool.{true}
 use mathlib.Core.List.{List, [], _∷_, _++_}
 use mathlib.Core.Path.{_≡_}
-use Rattle.theorems_lines.specs.Machine.{watched}
-use Rattle.theorems_lines.specs.Promise.{historyOf}
+use Rattle.theorems_scanlines.specs.Machine.{watched}
+use Rattle.theorems_scanlines.specs.Promise.{historyOf}
 use Rattle.theorems_histories.specs.Boards.{Board, Made}
 use Rattle.theorems_histories.specs.Histories.{Load, first, Reached, event}
 use Rattle.theorems_histories.specs.Shorthand.{write, fetch, inTurn}

@@ -16,10 +16,10 @@ use Rattle.state.specs.Lengths.{prgTaken, chrTaken, ramTaken}
 use Rattle.board.specs.declared.Outcome.{Outcome}
 use Rattle.board.specs.Loads.{zeroState, recorded, loadCall, loadedState}
 use Rattle.trace.specs.declared.Call.the-variants.{Clock, CpuRead, CpuWrite, PpuRegister, PpuFetch, Reset, PpuWrite}
-use Rattle.theorems_lines.specs.Machine.{run}
-use Rattle.theorems_lines.specs.Promise.{historyOf}
-use Rattle.theorems_lines.specs.Promise.Played.{at-load, taken}
-use Rattle.theorems_lines.proofs.Transfer.{seen}
+use Rattle.theorems_scanlines.specs.Machine.{run}
+use Rattle.theorems_scanlines.specs.Promise.{historyOf}
+use Rattle.theorems_scanlines.specs.Promise.Played.{at-load, taken}
+use Rattle.theorems_scanlines.proofs.Transfer.{seen}
 use Rattle.theorems_promises.proofs.Promised.{gate-stays-open}
 use Rattle.theorems_promises.proofs.Addresses.{address-stays}
 use Rattle.theorems_promises.proofs.Gates.{in-range-of}

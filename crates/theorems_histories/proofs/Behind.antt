@@ -27,8 +27,8 @@ use Rattle.state.specs.Gate.{gateMem}
 use Rattle.state.specs.Ranges.{inRange}
 use Rattle.cpu.specs.Reads.{audioRead}
 use Rattle.cpu.specs.Writes.{audioWrite}
-use Rattle.board.specs.declared.Interrupt.{Interrupt}
-use Rattle.board.specs.declared.Interrupt.the-variants.{Up, Down}
+use Rattle.board.specs.declared.InterruptAnswer.{InterruptAnswer}
+use Rattle.board.specs.declared.InterruptAnswer.the-variants.{Up, Down}
 use Rattle.board.specs.declared.Outcome.{Outcome}
 use Rattle.board.specs.CpuSide.{cpuRead, cpuWrite}
 use Rattle.board.specs.Outcomes.{outcome, refused, After, afterOf}
@@ -91,7 +91,7 @@ with-number n s o r =
     refused-or-not (o .answer) (λ why e. ap numberIn e ∙ sym (ap valueOf e) ∙ r .number)
     (λ f. absurd (omega (arith, r .letter, letter-range (o .answer) .1 f)))
 
-pub told : (i : Interrupt) (up : Bool) → i ≡ pick up Up Down → number (interrupts i) ≡ 0
+pub told : (i : InterruptAnswer) (up : Bool) → i ≡ pick up Up Down → number (interrupts i) ≡ 0
 unfolding number
 told i true e = rw e
 told i false e = rw e

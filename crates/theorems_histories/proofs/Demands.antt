@@ -1,4 +1,4 @@
--- Demand 3 over the board, by crate `theorems_lines`' transfer, and what the interrupt call and $5204 then say.
+-- Demand 3 over the board, by crate `theorems_scanlines`' transfer, and what the interrupt call and $5204 then say.
 use mathlib.Core.Bool.{Bool, true, false, false≢true}
 use mathlib.Core.List.{List, _∷_, _++_}
 use mathlib.Core.Logic.{_↔_}
@@ -13,17 +13,17 @@ use Rattle.state.specs.declared.State.{State}
 use Rattle.state.specs.Gate.{gateMem}
 use Rattle.state.specs.Ranges.{inRange}
 use Rattle.cpu.specs.Reads.{registerRead, cpuAnswer}
-use Rattle.board.specs.declared.Interrupt.{Interrupt}
-use Rattle.board.specs.declared.Interrupt.the-variants.{Up, Down, Refused as InterruptRefused}
+use Rattle.board.specs.declared.InterruptAnswer.{InterruptAnswer}
+use Rattle.board.specs.declared.InterruptAnswer.the-variants.{Up, Down, Refused as InterruptRefused}
 use Rattle.board.specs.CpuSide.{cpuRead}
 use Rattle.board.specs.StateCalls.{interruptCall}
-use Rattle.theorems_lines.specs.Told.{History, Up as ToldUp}
-use Rattle.theorems_lines.specs.Machine.{run}
-use Rattle.theorems_lines.specs.Promise.{historyOf}
-use Rattle.theorems_lines.specs.Cases.{toldStatus}
-use Rattle.theorems_lines.proofs.Agree.{agrees}
-use Rattle.theorems_lines.proofs.Flag.{flag-is}
-use Rattle.theorems_lines.proofs.Transfer.{any-machine}
+use Rattle.theorems_scanlines.specs.Told.{History, Up as ToldUp}
+use Rattle.theorems_scanlines.specs.Machine.{run}
+use Rattle.theorems_scanlines.specs.Promise.{historyOf}
+use Rattle.theorems_scanlines.specs.Cases.{toldStatus}
+use Rattle.theorems_scanlines.proofs.Agree.{agrees}
+use Rattle.theorems_scanlines.proofs.Flag.{flag-is}
+use Rattle.theorems_scanlines.proofs.Transfer.{any-machine}
 use Rattle.theorems_promises.proofs.Gates.{in-range-of}
 use Rattle.theorems_promises.proofs.Promised.{who-is-refused}
 use Rattle.theorems_histories.specs.Boards.{Board, Made}
@@ -37,7 +37,7 @@ board-demand-3 l = any-machine Board Made (first l) Takes view event (starts l) 
 
 -- The interrupt -------------------------------------------------------------------------------------------------------------------------
 
-abbrev isUp : Interrupt → Bool
+abbrev isUp : InterruptAnswer → Bool
 isUp Up = true
 isUp Down = false
 isUp (InterruptRefused r) = false

@@ -16,8 +16,8 @@ use Rattle.board.specs.Outcomes.{After}
 use Rattle.board_ppu.specs.Fetch.{countedCall, patternCall}
 use Rattle.trace.specs.declared.Call.{Call}
 use Rattle.trace.specs.declared.Call.the-variants.{Clock, CpuRead, CpuWrite, PpuRegister, PpuFetch, Reset, PpuWrite}
-use Rattle.theorems_lines.specs.Events.Event.{cpuRead, cpuWrite}
-use Rattle.theorems_lines.specs.Machine.{step}
+use Rattle.theorems_scanlines.specs.Events.Event.{cpuRead, cpuWrite}
+use Rattle.theorems_scanlines.specs.Machine.{step}
 use Rattle.theorems_histories.specs.Boards.{Board, Made, says, leaves, number}
 use Rattle.theorems_histories.specs.Boards.Made.{call, peek, ppu-peek, sprite-peek, mirroring-asked, interrupt-asked, cpu-page, ppu-page}
 use Rattle.theorems_histories.specs.Histories.{Takes, view, event}
@@ -57,6 +57,6 @@ followed b interrupt-asked n = refl
 followed b (cpu-page a) n = refl
 followed b (ppu-page a) n = refl
 
--- what crate `theorems_lines` asks of a machine
+-- what crate `theorems_scanlines` asks of a machine
 pub follows : (b b' : Board) (c : Made) → Takes b c b' → view b' ≡ step (view b) (event c)
 follows b b' c t = rw (t .left) (followed b c (t .accepted))

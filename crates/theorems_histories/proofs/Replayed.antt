@@ -25,7 +25,7 @@ use Rattle.trace.specs.declared.Call.the-variants.{Clock, CpuRead, CpuWrite, Pp
 use Rattle.trace.specs.declared.Found.the-variants.{End, Record, Refused as Unreadable}
 use Rattle.trace.specs.Records.{recordAt}
 use Rattle.trace.proofs.RecordLaws.{none-read, record-advances, record-refused}
-use Rattle.theorems_lines.specs.Promise.Played.{at-load, taken}
+use Rattle.theorems_scanlines.specs.Promise.Played.{at-load, taken}
 use Rattle.player.specs.declared.Ending.the-variants.{Stopped}
 use Rattle.logs.specs.Logs.{logged}
 use Rattle.player.specs.Replay.{Left, ended, playedFrom, played, replayed}

@@ -16,8 +16,8 @@ use Rattle.state.specs.Gate.{gateMem}
 use Rattle.cpu.specs.Reads.{audioRead}
 use Rattle.cpu.specs.Writes.{audioWrite}
 use Rattle.trace.specs.declared.Call.the-variants.{Clock, CpuRead, CpuWrite, PpuRegister, PpuFetch, Reset, PpuWrite}
-use Rattle.theorems_lines.specs.Machine.{run}
-use Rattle.theorems_lines.specs.Promise.{historyOf}
+use Rattle.theorems_scanlines.specs.Machine.{run}
+use Rattle.theorems_scanlines.specs.Promise.{historyOf}
 use Rattle.theorems_histories.specs.Boards.{Board, Made, says, number}
 use Rattle.theorems_histories.specs.Boards.Made.{call, peek, ppu-peek, sprite-peek, mirroring-asked, interrupt-asked, cpu-page, ppu-page}
 use Rattle.theorems_histories.specs.Histories.{Load, Reached, view, event}

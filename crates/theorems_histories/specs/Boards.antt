@@ -10,8 +10,8 @@ use Rattle.answers.specs.declared.Answer.{Answer}
 use Rattle.answers.specs.Numbers.{numberOf}
 use Rattle.answers.specs.Refused.{ifRefused}
 use Rattle.state.specs.declared.State.{State}
-use Rattle.board.specs.declared.Interrupt.{Interrupt}
-use Rattle.board.specs.declared.Interrupt.the-variants as interrupt
+use Rattle.board.specs.declared.InterruptAnswer.{InterruptAnswer}
+use Rattle.board.specs.declared.InterruptAnswer.the-variants as interrupt
 use Rattle.board.specs.declared.MirroringAnswer.{MirroringAnswer}
 use Rattle.board.specs.declared.MirroringAnswer.the-variants as mirroring
 use Rattle.board.specs.CpuSide.{cpuPeek}
@@ -43,7 +43,7 @@ pub data Made : Type 0 where
 pub data Said : Type 0 where
   answers : Answer → Said
   mirrors : MirroringAnswer → Said
-  interrupts : Interrupt → Said
+  interrupts : InterruptAnswer → Said
   shows : List ℕ → Said
 
 unfoldable pub says : Board → Made → Said

@@ -9,9 +9,9 @@ use Rattle.registers.specs.declared.Mirroring.{Mirroring}
 use Rattle.scanline.specs.declared.Detector.{Detector}
 use Rattle.board.specs.Loads.{loadCall}
 use Rattle.trace.specs.declared.Call.the-variants.{Clock, CpuRead, CpuWrite, PpuRegister, PpuFetch, Reset, PpuWrite}
-use Rattle.theorems_lines.specs.Events.{Event}
-use Rattle.theorems_lines.specs.Events.Event.{clock, fetch, cpuRead, cpuWrite, ppuRegister, other}
-use Rattle.theorems_lines.specs.Promise.{Played}
+use Rattle.theorems_scanlines.specs.Events.{Event}
+use Rattle.theorems_scanlines.specs.Events.Event.{clock, fetch, cpuRead, cpuWrite, ppuRegister, other}
+use Rattle.theorems_scanlines.specs.Promise.{Played}
 use Rattle.theorems_histories.specs.Boards.{Board, Made, says, leaves, number}
 use Rattle.theorems_histories.specs.Boards.Made.{call, peek, ppu-peek, sprite-peek, mirroring-asked, interrupt-asked, cpu-page, ppu-page}
 
@@ -32,7 +32,7 @@ pub record Takes (b : Board) (c : Made) (b' : Board) : Type 0 where
   pub left : b' ≡ leaves b c
 
 -- The calls cs, the newest first, are accepted one after the other from a on, and leave b: "each takes the state and the memories as the call
--- before it left them". `Played` (crate `theorems_lines`, specs/Promise.antt) is the chain: no calls leave a; where cs leave b and `Takes b c b'`, the
+-- before it left them". `Played` (crate `theorems_scanlines`, specs/Promise.antt) is the chain: no calls leave a; where cs leave b and `Takes b c b'`, the
 -- calls `c ∷ cs` leave b'.
 abbrev pub Leads : Board → List Made → Board → Type 0
 Leads a cs b = Played Board Made a Takes cs b
@@ -41,7 +41,7 @@ Leads a cs b = Played Board Made a Takes cs b
 abbrev pub Reached : Load → List Made → Board → Type 0
 Reached l cs b = Leads (first l) cs b
 
--- Where the scanline detector lies in a board, and what it can tell of a call: demand 3 speaks of these alone (crate `theorems_lines`).
+-- Where the scanline detector lies in a board, and what it can tell of a call: demand 3 speaks of these alone (crate `theorems_scanlines`).
 abbrev pub view : Board → Detector
 view b = b .state .irq
 

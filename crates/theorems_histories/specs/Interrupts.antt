@@ -1,5 +1,5 @@
 -- Demand 3 over the board: "The history alone tells the scanline interrupt. Over any accepted calls from load, .." What the sentences say of a
--- history stands in crate `theorems_lines`, specs/Told.antt and specs/Promise.antt.
+-- history stands in crate `theorems_scanlines`, specs/Told.antt and specs/Promise.antt.
 -- Assumes nothing.
 use Prim.Native.Nat.{ℕ, _-_, _<_}
 use mathlib.Core.Path.{_≡_}
@@ -7,12 +7,12 @@ use mathlib.Core.Logic.{_↔_}
 use mathlib.Core.Bool.{true}
 use mathlib.Core.List.{List, _∷_, _++_}
 use Rattle.answers.specs.declared.Answer.the-variants.{Register}
-use Rattle.board.specs.declared.Interrupt.the-variants.{Up, Down}
+use Rattle.board.specs.declared.InterruptAnswer.the-variants.{Up, Down}
 use Rattle.board.specs.CpuSide.{cpuRead, cpuPeek}
 use Rattle.board.specs.StateCalls.{interruptCall}
-use Rattle.theorems_lines.specs.Told.{lineAt, Waiting, newLines, calm, Up as ToldUp}
-use Rattle.theorems_lines.specs.Promise.{historyOf, Demand3}
-use Rattle.theorems_lines.specs.Cases.{toldStatus}
+use Rattle.theorems_scanlines.specs.Told.{lineAt, Waiting, newLines, calm, Up as ToldUp}
+use Rattle.theorems_scanlines.specs.Promise.{historyOf, Demand3}
+use Rattle.theorems_scanlines.specs.Cases.{toldStatus}
 use Rattle.theorems_histories.specs.Boards.{Board, Made}
 use Rattle.theorems_histories.specs.Histories.{Load, first, Takes, Reached, view, event}
 

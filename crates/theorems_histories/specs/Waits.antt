@@ -10,11 +10,11 @@ use lib.ListN.{replicate}
 use Rattle.memory.specs.Bytes.{Mem, memOf}
 use Rattle.answers.specs.declared.Answer.the-variants.{Nothing}
 use Rattle.registers.specs.declared.Mirroring.the-variants.{Horizontal}
-use Rattle.board.specs.declared.Interrupt.the-variants.{Up, Down}
+use Rattle.board.specs.declared.InterruptAnswer.the-variants.{Up, Down}
 use Rattle.board.specs.Loads.{loadCall}
 use Rattle.board.specs.StateCalls.{interruptCall}
-use Rattle.theorems_lines.specs.Told.{lineAt, Waiting, newLines, calm}
-use Rattle.theorems_lines.specs.Promise.{historyOf}
+use Rattle.theorems_scanlines.specs.Told.{lineAt, Waiting, newLines, calm}
+use Rattle.theorems_scanlines.specs.Promise.{historyOf}
 use Rattle.theorems_histories.specs.Boards.{Board, Made}
 use Rattle.theorems_histories.specs.Histories.{Load, Reached, event}
 use Rattle.theorems_histories.specs.Shorthand.{write, fetch}

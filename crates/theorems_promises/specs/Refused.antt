@@ -21,9 +21,9 @@ use Rattle.state.specs.Gate.{gateMem}
 use Rattle.state.specs.Ranges.{inRange}
 use Rattle.cpu.specs.Reads.{audioRead}
 use Rattle.cpu.specs.Writes.{audioWrite}
-use Rattle.board.specs.declared.Interrupt.the-variants.{Up, Down, Refused as InterruptRefused}
+use Rattle.board.specs.declared.InterruptAnswer.the-variants.{Up, Down, Refused as InterruptRefused}
 use Rattle.board.specs.declared.Outcome.{Outcome}
-use Rattle.board.specs.declared.MirroringAnswer.the-variants.{Is, Refused as NotSaid}
+use Rattle.board.specs.declared.MirroringAnswer.the-variants.{Is, Refused as MirroringRefused}
 use Rattle.board.specs.CpuSide.{cpuRead, cpuPeek, cpuWrite}
 use Rattle.board.specs.Outcomes.{refused, afterOf}
 use Rattle.board.specs.StateCalls.{resetCall, clockCall, ppuRegisterCall, mirroringCall, interruptCall}
@@ -67,6 +67,6 @@ pub record WhoIsRefused : Type 0 where
   pub clock-broken : (s : State) → inRange s ≡ false → RefusedWith 5 s (clockCall s)
   pub register-broken : (s : State) (a v : ℕ) → inRange s ≡ false → RefusedWith 5 s (ppuRegisterCall s a v)
   -- these two have no outcome; `StateBroken` is the refusal with the number 5
-  pub mirroring-broken : (s : State) → inRange s ≡ false → mirroringCall s ≡ NotSaid StateBroken
+  pub mirroring-broken : (s : State) → inRange s ≡ false → mirroringCall s ≡ MirroringRefused StateBroken
   pub interrupt-broken : (s : State) → inRange s ≡ false → interruptCall s ≡ InterruptRefused StateBroken
   pub broken-is-five : numberOf StateBroken ≡ 5

@@ -1,5 +1,5 @@
 -- The contracts of the host's boundary, function by function, crate by crate: words read and put back, what is answered, and the calls of the three
--- static libraries. Of a call that takes words to change, every word is looked at; of one that takes memory to change, every byte too.
+-- static library. Of a call that takes words to change, every word is looked at; of one that takes memory to change, every byte too.
 -- Assumes nothing.
 use Prim.Native.Nat.{ℕ}
 use mathlib.Core.List.{List}
@@ -42,8 +42,8 @@ use Rattle.host_state.proofs.tables.prg_table.Reads as host-state-prg-table
 use Rattle.host_state.proofs.tables.chr_table.Reads as host-state-chr-table
 use Rattle.host_state.proofs.tables.put_prg_table.Reads as host-state-put-prg-table
 use Rattle.host_state.proofs.tables.put_chr_table.Reads as host-state-put-chr-table
-use Rattle.host_state.proofs.full_state.state_of.Reads as host-state-state-of
-use Rattle.host_state.proofs.full_state.put_state.Reads as host-state-put-state
+use Rattle.host_state.proofs.whole_state.state_of.Reads as host-state-state-of
+use Rattle.host_state.proofs.whole_state.put_state.Reads as host-state-put-state
 use Rattle.host_answers.proofs.interrupt.Reads as host-answers-interrupt
 use Rattle.host_answers.proofs.mirroring.Reads as host-answers-mirroring
 use Rattle.host_answers.proofs.plain.Reads as host-answers-plain

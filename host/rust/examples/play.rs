@@ -42,9 +42,9 @@ fn main() {
     let (mut at, mut count) = (0, 0);
     while at < end {
         let kind = trace[at];
-        let told = logged(&log, count).expect("a record has at least one byte, so the log has room");
-        let up = u8::from(told.interrupt);
-        match told.answer {
+        let outcome = logged(&log, count).expect("a record has at least one byte, so the log has room");
+        let up = u8::from(outcome.interrupt);
+        match outcome.answer {
             Answer::None => println!("{count} {kind} - {up}"),
             Answer::Register(val) => println!("{count} {kind} R {val} {up}"),
             Answer::Served(val) => println!("{count} {kind} S {val} {up}"),

@@ -1,6 +1,6 @@
 //! The board for a server in Rust: every call over a state and five buffers that the server owns.
 //!
-//! The work is done by the proved static libraries. Each of their calls takes whatever the state holds and
+//! The work is done by the proved static library. Each of its calls takes whatever the state holds and
 //! refuses with document 01's numbers; it allocates nothing, keeps nothing, and reads and writes only what
 //! is lent here. So nothing in this crate has to be believed but the pointers and lengths that it hands on.
 
@@ -36,7 +36,7 @@ pub enum Answer {
 
 /// An answer, and whether the interrupt is up after the call (never said of a refusal or a peek).
 #[derive(Clone, Copy, Debug, PartialEq, Eq)]
-pub struct Told {
+pub struct Outcome {
     pub answer: Answer,
     pub interrupt: bool,
 }
@@ -59,13 +59,13 @@ pub struct Stopped {
 
 /// What record `n` (from 0) of a replay answered, by the replay's log; none past the log's end. A record that was played has two bytes: the
 /// answer's letter (`-` none, `R` register, `S` served, `M` page, `B` blank) with the interrupt in the top bit, then the value.
-pub fn logged(log: &[u8], n: usize) -> Option<Told> {
+pub fn logged(log: &[u8], n: usize) -> Option<Outcome> {
     let pair = log.get(2 * n..2 * n + 2)?;
-    Some(told(u32::from(pair[0]) << 8 | u32::from(pair[1])))
+    Some(outcome(u32::from(pair[0]) << 8 | u32::from(pair[1])))
 }
 
 #[inline]
-fn told(number: u32) -> Told {
+fn outcome(number: u32) -> Outcome {
     let value = number as u8;
     let answer = match (number >> 8 & 0x7F) as u8 {
         b'-' => Answer::None,
@@ -75,7 +75,7 @@ fn told(number: u32) -> Told {
         b'B' => Answer::Blank,
         _ => Answer::Refused(value),
     };
-    Told {
+    Outcome {
         answer,
         interrupt: number & 0x8000 != 0,
     }
@@ -144,60 +144,60 @@ impl State {
     /// 4 and above FourScreen. A refused load leaves the zero state.
     #[inline]
     pub fn load(&mut self, m: &Memory<'_>, chr_writable: bool, mirroring: u8) -> Result<(), u8> {
-        match told(over!(mmc5_load, [mut], self, m, u8::from(chr_writable), mirroring)).answer {
+        match outcome(over!(mmc5_load, [mut], self, m, u8::from(chr_writable), mirroring)).answer {
             Answer::Refused(number) => Err(number),
             _ => Ok(()),
         }
     }
 
     #[inline]
-    pub fn cpu_read(&mut self, m: &Memory<'_>, addr: u16) -> Told {
-        told(over!(mmc5_cpu_read, [mut], self, m, addr))
+    pub fn cpu_read(&mut self, m: &Memory<'_>, addr: u16) -> Outcome {
+        outcome(over!(mmc5_cpu_read, [mut], self, m, addr))
     }
 
     #[inline]
     pub fn cpu_peek(&self, m: &Memory<'_>, addr: u16) -> Answer {
-        told(over!(mmc5_cpu_peek, [], self, m, addr)).answer
+        outcome(over!(mmc5_cpu_peek, [], self, m, addr)).answer
     }
 
     #[inline]
-    pub fn cpu_write(&mut self, m: &mut Memory<'_>, addr: u16, val: u8) -> Told {
-        told(writing!(mmc5_cpu_write, self, m; addr, val))
+    pub fn cpu_write(&mut self, m: &mut Memory<'_>, addr: u16, val: u8) -> Outcome {
+        outcome(writing!(mmc5_cpu_write, self, m; addr, val))
     }
 
     #[inline]
-    pub fn ppu_fetch(&mut self, m: &Memory<'_>, addr: u16) -> Told {
-        told(over!(mmc5_ppu_fetch, [mut], self, m, addr))
+    pub fn ppu_fetch(&mut self, m: &Memory<'_>, addr: u16) -> Outcome {
+        outcome(over!(mmc5_ppu_fetch, [mut], self, m, addr))
     }
 
     #[inline]
     pub fn ppu_peek(&self, m: &Memory<'_>, addr: u16) -> Answer {
-        told(over!(mmc5_ppu_peek, [], self, m, addr)).answer
+        outcome(over!(mmc5_ppu_peek, [], self, m, addr)).answer
     }
 
     #[inline]
     pub fn sprite_peek(&self, m: &Memory<'_>, addr: u16) -> Answer {
-        told(over!(mmc5_sprite_peek, [], self, m, addr)).answer
+        outcome(over!(mmc5_sprite_peek, [], self, m, addr)).answer
     }
 
     #[inline]
-    pub fn ppu_write(&mut self, m: &mut Memory<'_>, addr: u16, val: u8) -> Told {
-        told(writing!(mmc5_ppu_write, self, m; addr, val))
+    pub fn ppu_write(&mut self, m: &mut Memory<'_>, addr: u16, val: u8) -> Outcome {
+        outcome(writing!(mmc5_ppu_write, self, m; addr, val))
     }
 
     #[inline]
-    pub fn ppu_register(&mut self, addr: u16, val: u8) -> Told {
-        told(on!(mmc5_ppu_register, mut self, addr, val))
+    pub fn ppu_register(&mut self, addr: u16, val: u8) -> Outcome {
+        outcome(on!(mmc5_ppu_register, mut self, addr, val))
     }
 
     #[inline]
-    pub fn clock(&mut self) -> Told {
-        told(on!(mmc5_clock, mut self))
+    pub fn clock(&mut self) -> Outcome {
+        outcome(on!(mmc5_clock, mut self))
     }
 
     #[inline]
-    pub fn reset(&mut self) -> Told {
-        told(on!(mmc5_reset, mut self))
+    pub fn reset(&mut self) -> Outcome {
+        outcome(on!(mmc5_reset, mut self))
     }
 
     /// Plays a trace of at most 8,192 bytes in one call: the records played, or where it stopped. Each record that was played leaves two

@@ -177,7 +177,7 @@ fn refused(random: &mut Random, s: &State, buffers: &Buffers, name: &str, number
     for record in calls {
         let (mut t, mut b) = (s.clone(), buffers.clone());
         let mut m = b.lent();
-        let (told, wanted) = match record {
+        let (outcome, wanted) = match record {
             Record::Clock => (t.clock(), memoryless),
             Record::CpuRead(addr) => (t.cpu_read(&m, addr), number),
             Record::CpuWrite(addr, val) => (t.cpu_write(&mut m, addr, val), number),
@@ -186,8 +186,8 @@ fn refused(random: &mut Random, s: &State, buffers: &Buffers, name: &str, number
             Record::Reset => (t.reset(), memoryless),
             Record::PpuMemoryWrite(addr, val) => (t.ppu_write(&mut m, addr, val), number),
         };
-        if wanted != 0 && told.answer != Answer::Refused(wanted) {
-            return Err(format!("{name}: {record:?} gives {:?}, not {wanted}", told.answer));
+        if wanted != 0 && outcome.answer != Answer::Refused(wanted) {
+            return Err(format!("{name}: {record:?} gives {:?}, not {wanted}", outcome.answer));
         }
         if wanted != 0 && (t != *s || b != *buffers) {
             return Err(format!("{name}: {record:?} was refused and changed something"));
@@ -215,9 +215,9 @@ fn replay_refused(random: &mut Random, s: &State, buffers: &Buffers, name: &str,
     let traces = [(vec![], number), (vec![0, 5, 0], number), (vec![random.byte(); 9], number), (vec![0; LONGEST], number), (vec![0; LONGEST + 1], 11)];
     for (trace, refusal) in traces {
         let (mut t, mut b, mut log) = (s.clone(), buffers.clone(), vec![0xA5; 64]);
-        let told = t.replay(&mut b.lent(), &trace, &mut log);
-        if told != Err(Stopped { place: 0, refusal }) {
-            return Err(format!("{name}: replay gives {told:?}, not {refusal}"));
+        let outcome = t.replay(&mut b.lent(), &trace, &mut log);
+        if outcome != Err(Stopped { place: 0, refusal }) {
+            return Err(format!("{name}: replay gives {outcome:?}, not {refusal}"));
         }
         if t != *s || b != *buffers || log != [0xA5; 64] {
             return Err(format!("{name}: a refused replay changed something"));
@@ -258,9 +258,9 @@ pub fn limits() -> Result<u64, String> {
     for (place, &limit) in LIMITS.iter().enumerate() {
         let mut s = pair.state.clone();
         s.words[place] = limit;
-        let told = s.clock();
-        if told.answer != Answer::None {
-            return Err(format!("word {place} at its limit {limit}: {:?}", told.answer));
+        let outcome = s.clock();
+        if outcome.answer != Answer::None {
+            return Err(format!("word {place} at its limit {limit}: {:?}", outcome.answer));
         }
         calls += 1;
         let Some(above) = limit.checked_add(1) else {

@@ -1,7 +1,7 @@
 //! The two boards, and the comparison.
 
 use crate::tiles;
-use mmc5::{Answer as Told, Memory, State, words};
+use mmc5::{Answer as Ours, Memory, State, words};
 use oracle::{
     board::{Answer, Board},
     cartridge::{BUFFERS, Cartridge, MIRRORINGS, fill_byte},
@@ -44,14 +44,14 @@ pub struct Pair {
 }
 
 /// The Rust's answer in the host's words.
-pub fn in_words(answer: Result<Answer, Refusal>) -> Told {
+pub fn in_words(answer: Result<Answer, Refusal>) -> Ours {
     match answer {
-        Ok(Answer::None) => Told::None,
-        Ok(Answer::Register(val)) => Told::Register(val),
-        Ok(Answer::Served(val)) => Told::Served(val),
-        Ok(Answer::Page(val)) => Told::Page(val),
-        Ok(Answer::Blank) => Told::Blank,
-        Err(refusal) => Told::Refused(refusal.number()),
+        Ok(Answer::None) => Ours::None,
+        Ok(Answer::Register(val)) => Ours::Register(val),
+        Ok(Answer::Served(val)) => Ours::Served(val),
+        Ok(Answer::Page(val)) => Ours::Page(val),
+        Ok(Answer::Blank) => Ours::Blank,
+        Err(refusal) => Ours::Refused(refusal.number()),
     }
 }
 
@@ -60,7 +60,7 @@ pub fn mirroring_number(c: &Cartridge) -> u8 {
     found.expect("one of the five") as u8
 }
 
-/// Load on both. None where both refuse alike; a difference is told.
+/// Load on both. None where both refuse alike; a difference is said.
 pub fn load(c: Cartridge) -> Result<Option<Pair>, String> {
     let mut buffers = Buffers::filled(&c);
     let before = buffers.clone();
@@ -102,7 +102,7 @@ impl Pair {
     }
 
     /// A record's call on the port.
-    pub fn ours(&mut self, record: Record) -> mmc5::Told {
+    pub fn ours(&mut self, record: Record) -> mmc5::Outcome {
         let mut m = self.buffers.lent();
         let s = &mut self.state;
         match record {
@@ -148,7 +148,7 @@ impl Pair {
             self.split_address().map_err(|why| format!("{record:?}: {why}"))?;
         }
         self.tile_count().map_err(|why| format!("{record:?}: {why}"))?;
-        let taken = !matches!(theirs, Told::Refused(_));
+        let taken = !matches!(theirs, Ours::Refused(_));
         if taken && ours.interrupt != self.rust.interrupt() {
             return Err(format!("{record:?}: interrupt, the Rust {}", self.rust.interrupt()));
         }

@@ -34,7 +34,7 @@ fn rust_call(board: &mut Board, record: Record) -> u32 {
 #[inline(always)]
 fn port_call(s: &mut State, b: &mut Buffers, record: Record) -> u32 {
     let mut m = b.lent();
-    let told = match record {
+    let outcome = match record {
         Record::Clock => s.clock(),
         Record::CpuRead(addr) => s.cpu_read(&m, addr),
         Record::CpuWrite(addr, val) => s.cpu_write(&mut m, addr, val),
@@ -43,7 +43,7 @@ fn port_call(s: &mut State, b: &mut Buffers, record: Record) -> u32 {
         Record::Reset => s.reset(),
         Record::PpuMemoryWrite(addr, val) => s.ppu_write(&mut m, addr, val),
     };
-    u32::from(told.interrupt)
+    u32::from(outcome.interrupt)
 }
 
 fn loaded(c: Cartridge) -> (Board, State, Buffers) {

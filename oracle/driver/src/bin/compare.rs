@@ -108,7 +108,7 @@ fn main() {
     let seed = words.next().unwrap_or(1);
     let mut seen = Seen::default();
     let start = Instant::now();
-    let mut told = 0;
+    let mut shown = 0;
     let mut case = 0;
     while seen.records < records {
         // Each case has a seed of its own, so that it can be run alone.
@@ -120,9 +120,9 @@ fn main() {
             seen.differ(&format!("seed {seed}, case {case}"), why);
         }
         case += 1;
-        if start.elapsed().as_secs() >= told + 10 {
-            told = start.elapsed().as_secs();
-            println!("{told} s: {} records, {} differences", seen.records, seen.differences);
+        if start.elapsed().as_secs() >= shown + 10 {
+            shown = start.elapsed().as_secs();
+            println!("{shown} s: {} records, {} differences", seen.records, seen.differences);
         }
     }
     let mut from_counts = 0;

@@ -1,4 +1,4 @@
--- `forms::clocks::lent` meets its contract, by a walk of its code: the record is copied into a local, the local is lent for a lifetime that the walk
+-- `test_forms::clocks::lent` meets its contract, by a walk of its code: the record is copied into a local, the local is lent for a lifetime that the walk
 -- makes, `clock_lent` is called, the lifetime is ended, and what lies in the local then goes into the result. All that is known of `clock_lent` is
 -- its contract, and nothing names a field of the record.
 use mathlib.Core.Path.{_≡_, refl, subst}

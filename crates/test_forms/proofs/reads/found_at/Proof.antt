@@ -1,4 +1,4 @@
--- `forms::reads::found_at` meets its contract: a walk of its MIR, by hand. The `Reader` that `new` returns is held in a local and passed to `advanced`,
+-- `test_forms::reads::found_at` meets its contract: a walk of its MIR, by hand. The `Reader` that `new` returns is held in a local and passed to `advanced`,
 -- and what that returns to `next_record`; the three calls are rules (crate `trace`, proofs/ReaderCalls.antt).
 use mathlib.Core.Path.{_≡_, refl}
 use Prim.Native.Nat.{ℕ, _<_, _^_}

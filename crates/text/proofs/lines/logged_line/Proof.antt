@@ -1,4 +1,4 @@
--- `text::lines::logged_line` meets its contract, word by word.
+-- `text::lines::logged_line` meets its contract, piece by piece.
 use Prim.Native.Nat.{ℕ, _%_}
 use mathlib.Core.Path.{refl}
 use borrow.Author.Needs.{needs}

@@ -1,4 +1,4 @@
--- `text::lines::refused_line` meets its contract, word by word.
+-- `text::lines::refused_line` meets its contract, piece by piece.
 use borrow.Author.Needs.{needs}
 use Rattle.text.proofs.LineLaws.{word, last-word}
 use Rattle.text.proofs.lines.refused_line.Statement.{statement}

@@ -1,4 +1,4 @@
--- `text::lines::too_long_line` meets its contract, word by word.
+-- `text::lines::too_long_line` meets its contract, piece by piece.
 use mathlib.Core.Path.{refl}
 use borrow.Author.Needs.{needs}
 use Rattle.text.proofs.LineLaws.{word, last-word}

@@ -1,4 +1,4 @@
--- `text::lines::unreadable_line` meets its contract, word by word.
+-- `text::lines::unreadable_line` meets its contract, piece by piece.
 use borrow.Author.Needs.{needs}
 use Rattle.text.proofs.LineLaws.{word, last-word}
 use Rattle.text.proofs.lines.unreadable_line.Statement.{statement}
