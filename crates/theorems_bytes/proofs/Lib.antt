@@ -1,0 +1,5 @@
+pub mod Behind
+pub mod PrgLaws
+pub mod ChrLaws
+pub mod NameLaws
+pub mod ExRamLaws
