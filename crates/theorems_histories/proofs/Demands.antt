@@ -17,10 +17,9 @@ use Rattle.board.specs.declared.InterruptAnswer.{InterruptAnswer}
 use Rattle.board.specs.declared.InterruptAnswer.the-variants.{Up, Down, Refused as InterruptRefused}
 use Rattle.board.specs.CpuSide.{cpuRead}
 use Rattle.board.specs.StateCalls.{interruptCall}
-use Rattle.theorems_scanlines.specs.Told.{History, Up as ToldUp}
+use Rattle.theorems_scanlines.specs.Told.{History, toldStatus, Up as ToldUp}
 use Rattle.theorems_scanlines.specs.Machine.{run}
 use Rattle.theorems_scanlines.specs.Promise.{historyOf}
-use Rattle.theorems_scanlines.specs.Cases.{toldStatus}
 use Rattle.theorems_scanlines.proofs.Agree.{agrees}
 use Rattle.theorems_scanlines.proofs.Flag.{flag-is}
 use Rattle.theorems_scanlines.proofs.Transfer.{any-machine}

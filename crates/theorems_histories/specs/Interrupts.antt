@@ -10,9 +10,8 @@ use Rattle.answers.specs.declared.Answer.the-variants.{Register}
 use Rattle.board.specs.declared.InterruptAnswer.the-variants.{Up, Down}
 use Rattle.board.specs.CpuSide.{cpuRead, cpuPeek}
 use Rattle.board.specs.StateCalls.{interruptCall}
-use Rattle.theorems_scanlines.specs.Told.{lineAt, Waiting, newLines, calm, Up as ToldUp}
+use Rattle.theorems_scanlines.specs.Told.{lineAt, Waiting, newLines, calm, toldStatus, Up as ToldUp}
 use Rattle.theorems_scanlines.specs.Promise.{historyOf, Demand3}
-use Rattle.theorems_scanlines.specs.Cases.{toldStatus}
 use Rattle.theorems_histories.specs.Boards.{Board, Made}
 use Rattle.theorems_histories.specs.Histories.{Load, first, Takes, Reached, view, event}
 

@@ -12,11 +12,11 @@ use Rattle.scanline.specs.Ranges.{lineRefused, counterRefused}
 use Rattle.scanline.specs.Clock.{tick}
 use Rattle.scanline.specs.Steps.{again, matchesAfter, isLine, meets, seenAt}
 use Rattle.theorems_scanlines.specs.Events.{Event, isClock, fetches, reads, writes, darkens, address, value, counts, vectors, clears}
-use Rattle.theorems_scanlines.specs.Told.{History, idle, row, breaks, recent, alike, lineAt, lines, inFrame, lastWrite, hadBit7, newLines, calm, isValue, hits, flagTold, up, TestsAreSentences}
+use Rattle.theorems_scanlines.specs.Told.{History, idle, row, breaks, recent, alike, lineAt, lines, inFrame, lastWrite, hadBit7, newLines, calm, isValue, hits, flagTold, up, TestsAreSentences, toldStatus}
 use Rattle.theorems_scanlines.specs.Machine.{step, eventRefused, tilesBy, watched, allTaken}
 use Rattle.theorems_scanlines.specs.Promise.{LedTo}
 use Rattle.theorems_scanlines.specs.Promise.Played.{at-load, taken}
-use Rattle.theorems_scanlines.specs.Cases.{after, toldStatus, right, Cases, waitingFrom, between, last, Worked}
+use Rattle.theorems_scanlines.specs.Cases.{after, right, Cases, waitingFrom, between, last, Worked}
 use Rattle.theorems_scanlines.proofs.Flag.{flag-iff, up-iff}
 
 pub cases : Cases

@@ -10,7 +10,7 @@ use Rattle.memory.specs.Tests.{conj, pick, all}
 use Rattle.scanline.specs.Steps.{statusOf, interruptUp}
 use Rattle.theorems_scanlines.specs.Events.{Event}
 use Rattle.theorems_scanlines.specs.Events.Event.{clock, fetch, cpuRead, cpuWrite, ppuRegister}
-use Rattle.theorems_scanlines.specs.Told.{History, lineAt, inFrame, Waiting, newLines, calm, flagTold, up}
+use Rattle.theorems_scanlines.specs.Told.{History, lineAt, Waiting, newLines, calm, up, toldStatus}
 use Rattle.theorems_scanlines.specs.Machine.{watched, allTaken}
 use Rattle.theorems_scanlines.specs.Promise.{LedTo}
 
@@ -113,10 +113,6 @@ misreadings =
 
 abbrev pub cases : List Case
 cases = edges ++ (readings ++ misreadings)
-
--- what $5204 reads, as the history alone tells it
-unfoldable pub toldStatus : History → ℕ
-toldStatus h = pick (flagTold h) 128 0 + pick (inFrame h) 64 0
 
 abbrev agree : Bool → Bool → Bool
 agree a b = pick a b (not b)

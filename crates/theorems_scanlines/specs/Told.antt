@@ -136,5 +136,9 @@ flagTold (e ∷ h) = not (clears e) && (hits e h || flagTold h)
 unfoldable pub up : History → Bool
 up h = flagTold h && hadBit7 (lastWrite 0x5204 h)
 
+-- what $5204 reads, as the history alone tells it
+unfoldable pub toldStatus : History → ℕ
+toldStatus h = pick (flagTold h) 128 0 + pick (inFrame h) 64 0
+
 abbrev pub TestsAreSentences : Type 0
 TestsAreSentences = (h : History) → ((flagTold h ≡ true) ↔ Flagged h) × ((up h ≡ true) ↔ Up h)
