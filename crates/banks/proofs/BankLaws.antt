@@ -1,20 +1,18 @@
 -- Laws of banks.
-use Prim.Native.Nat.{ℕ, _+_, _*_, _-_, _/_, _%_, _<_, _≤_}
+use Prim.Native.Nat.{ℕ, zero, suc, _+_, _*_, _-_, _/_, _%_, _<_, _≤_}
 use mathlib.Core.Bool.{Bool, true, false, not, _&&_, _||_}
 use mathlib.Core.List.{List}
 use mathlib.Core.Path.{_≡_, refl}
 use native.Mathlib.Omega.{arith}
-use native.Mathlib.Nat.{mul-le-mul, add-zero}
-use native.Mathlib.Numerals.{add-one}
-use lib.Dec.{eqb}
+use native.Mathlib.Nat.{mul-le-mul}
 use lib.ListN.{getD, set}
 use Rattle.memory.specs.declared.PageWord.{PageWord}
 use Rattle.memory.specs.Tests.{pick}
 use Rattle.memory.specs.PageWords.{word}
-use Rattle.memory.proofs.Tests.{split}
 use Rattle.banks.specs.Placed.{placed}
-use Rattle.banks.specs.Prg.{prgValuePages, windowsMapped}
+use Rattle.banks.specs.Prg.{prgValuePages, pageFrom6000}
 use Rattle.banks.specs.Chr.{windowPages, windowRegister, background}
+use Rattle.banks.proofs.PlacedLaws.{placed-next}
 
 -- Eight entries from a place on, one after the other.
 abbrev pub eight : List PageWord → ℕ → List PageWord → List PageWord
@@ -30,18 +28,45 @@ eight m at w =
     (at + 7)
     (getD w 7 (word 0))
 
--- One window more.
-pub windows-next : (prg ram : ℕ) (free : Bool) (values : List ℕ) (pages m : List PageWord) (i : ℕ) (w : List PageWord)
-    → m ≡ windowsMapped prg ram free values pages i → w ≡ prgValuePages prg ram free (getD values i 0)
-    → eight m (24 + 8 * i) w ≡ windowsMapped prg ram free values pages (i + 1)
-unfolding windowsMapped placed
-windows-next prg ram free values pages m i w e h = rw (add-one i, add-zero, e, h)
+-- One page more: page j of window i.
+page-next : (prg ram : ℕ) (free : Bool) (values : List ℕ) (pages m : List PageWord) (i j : ℕ) (w : List PageWord) → j < 8
+    → w ≡ prgValuePages prg ram free (getD values i 0) → m ≡ placed pages 24 (pageFrom6000 prg ram free values) (8 * i + j)
+    → set m (24 + 8 * i + j) (getD w j (word 0)) ≡ placed pages 24 (pageFrom6000 prg ram free values) (8 * i + (j + 1))
+page-next prg ram free values pages m i j w few h e =
+    let window : (8 * i + j) / 8 ≡ i = omega arith in
+    let inside : (8 * i + j) % 8 ≡ j = omega arith in
+    let next = placed-next pages m 24 (pageFrom6000 prg ram free values) (8 * i + j) (getD w j (word 0)) e (rw (window, inside, h)) in
+    let at : 24 + (8 * i + j) ≡ 24 + 8 * i + j = omega arith in
+    let more : 8 * i + j + 1 ≡ 8 * i + (j + 1) = omega arith in
+    rw (at, more) at next
+
+-- One window more: its eight pages.
+pub window-next : (prg ram : ℕ) (free : Bool) (values : List ℕ) (pages m : List PageWord) (i : ℕ) (w : List PageWord)
+    → m ≡ placed pages 24 (pageFrom6000 prg ram free values) (8 * i) → w ≡ prgValuePages prg ram free (getD values i 0)
+    → eight m (24 + 8 * i) w ≡ placed pages 24 (pageFrom6000 prg ram free values) (8 * (i + 1))
+window-next prg ram free values pages m i w e h =
+    let first : 8 * i ≡ 8 * i + 0 = omega arith in
+    let start : 24 + 8 * i + 0 ≡ 24 + 8 * i = omega arith in
+    let last : 8 * i + 8 ≡ 8 * (i + 1) = omega arith in
+    let step : (j : ℕ) → j < 8 → (n : List PageWord) → n ≡ placed pages 24 (pageFrom6000 prg ram free values) (8 * i + j)
+    → set n (24 + 8 * i + j) (getD w j (word 0)) ≡ placed pages 24 (pageFrom6000 prg ram free values) (8 * i + (j + 1))
+    = λ j few n. page-next prg ram free values pages n i j w few h in
+    rw last at
+    (step 7 (omega arith) _ (step 6 (omega arith) _ (step 5 (omega arith) _ (step 4 (omega arith) _ (step 3 (omega arith) _ (step 2 (omega arith) _
+    (step 1 (omega arith) _ (rw start at (step 0 (omega arith) m (rw first at e))))))))))
+
+-- From mode 3 on a window has one page.
+pub one-page : (mode : ℕ) → 3 ≤ mode → windowPages mode ≡ 1
+unfolding windowPages
+one-page mode h = let e : 3 - mode ≡ 0 = omega arith in rw e
 
 -- By the four window sizes.
 pub by-size : (P : ℕ → Type 0) (mode : ℕ) → P 8 → P 4 → P 2 → P 1 → P (windowPages mode)
 unfolding windowPages
-by-size P mode a b c d =
-    split (eqb mode 0) (λ t. rw t a) (λ t. rw t (split (eqb mode 1) (λ u. rw u b) (λ u. rw u (split (eqb mode 2) (λ v. rw v c) (λ v. rw v d)))))
+by-size P zero a b c d = a
+by-size P (suc zero) a b c d = b
+by-size P (suc (suc zero)) a b c d = c
+by-size P (suc (suc (suc mode))) a b c d = rw (one-page (suc (suc (suc mode))) (omega arith)) d
 
 pub register-inside : (mode k : ℕ) → k < 8 → windowRegister (windowPages mode) k < 8
 register-inside mode k h = by-size (λ (n : ℕ). windowRegister n k < 8) mode (omega arith) (omega arith) (omega arith) (omega arith)

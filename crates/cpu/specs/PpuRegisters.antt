@@ -5,7 +5,7 @@ use lib.Dec.{eqb}
 use Rattle.memory.specs.Bits.{bitSet}
 use Rattle.memory.specs.Tests.{pick}
 use Rattle.scanline.specs.declared.Detector.{Detector}
-use Rattle.scanline.specs.Steps.{dark, broken}
+use Rattle.scanline.specs.Steps.{dark, darkened}
 use Rattle.state.specs.declared.PpuStatus.{PpuStatus}
 use Rattle.state.specs.With.{withSprite8x16, withRendering}
 
@@ -18,4 +18,4 @@ statusAfter p a v =
 
 -- "A break is a PPU register write to $2001 with bits 3 and 4 clear".
 unfoldable pub detectorAfter : Detector → ℕ → ℕ → Detector
-detectorAfter d a v = pick (eqb a 0x2001 && dark v) (broken d) d
+detectorAfter d a v = pick (eqb a 0x2001 && dark v) (darkened d) d

@@ -2,6 +2,7 @@
 use Prim.Native.Nat.{ℕ, _-_, _*_, _/_, _%_}
 use mathlib.Core.Bool.{Bool, _||_}
 use mathlib.Core.List.{List}
+use mathlib.Core.Option.{Option, none, some}
 use lib.Dec.{eqb}
 use lib.ListN.{getD}
 use Rattle.memory.specs.declared.Page.{Page}
@@ -33,27 +34,35 @@ answeredAs ExRam v = FromPage v
 unfoldable pub pageAnswer : Mem → Page → ℕ → Answer
 pageAnswer m p a = answeredAs (p .src) (pageByte m p a)
 
--- The registers that can be read, each with its address; elsewhere the page. Which they are is the Rust's (`prg_peek`). Module 9: "$5130 reads 0
+-- The registers that can be read: the value of the one at an address, or none. Which they are is the Rust's (`prg_peek`). Module 9: "$5130 reads 0
 -- always."
+unfoldable pub registerAt : Regs → VSplit → Detector → List ℕ → List ℕ → ℕ → Option ℕ
+registerAt g v d prg chr a =
+    pick (within 0x5113 0x5117 a) (some (getD prg (a - 0x5113) 0))
+    (pick (within 0x5120 0x512B a) (some (getD chr (a - 0x5120) 0))
+    (pick (eqb a 0x5100) (some (g .«prg_mode»))
+    (pick (eqb a 0x5101) (some (g .«chr_mode»))
+    (pick (eqb a 0x5104) (some (g .«exram_mode»))
+    (pick (eqb a 0x5105) (some (g .nametables))
+    (pick (eqb a 0x5106) (some (g .«fill_tile»))
+    (pick (eqb a 0x5107) (some (g .«fill_attr»))
+    (pick (eqb a 0x5130) (some 0)
+    (pick (eqb a 0x5200) (some (v .mode))
+    (pick (eqb a 0x5201) (some (v .scroll))
+    (pick (eqb a 0x5202) (some (v .bank))
+    (pick (eqb a 0x5203) (some (d .«irq_scanline»))
+    (pick (eqb a 0x5204) (some (statusOf d))
+    (pick (eqb a 0x5205) (some (g .multiplicand * g .multiplier % 256))
+    (pick (eqb a 0x5206) (some (g .multiplicand * g .multiplier / 256))
+    none)))))))))))))))
+
+-- the registers first, then the page
+abbrev pub orElse : Option ℕ → Answer → Answer
+orElse (some v) page = Register v
+orElse none page = page
+
 unfoldable pub registerRead : Regs → VSplit → Detector → List ℕ → List ℕ → ℕ → Answer → Answer
-registerRead g v d prg chr a page =
-    pick (within 0x5113 0x5117 a) (Register (getD prg (a - 0x5113) 0))
-    (pick (within 0x5120 0x512B a) (Register (getD chr (a - 0x5120) 0))
-    (pick (eqb a 0x5100) (Register (g .«prg_mode»))
-    (pick (eqb a 0x5101) (Register (g .«chr_mode»))
-    (pick (eqb a 0x5104) (Register (g .«exram_mode»))
-    (pick (eqb a 0x5105) (Register (g .nametables))
-    (pick (eqb a 0x5106) (Register (g .«fill_tile»))
-    (pick (eqb a 0x5107) (Register (g .«fill_attr»))
-    (pick (eqb a 0x5130) (Register 0)
-    (pick (eqb a 0x5200) (Register (v .mode))
-    (pick (eqb a 0x5201) (Register (v .scroll))
-    (pick (eqb a 0x5202) (Register (v .bank))
-    (pick (eqb a 0x5203) (Register (d .«irq_scanline»))
-    (pick (eqb a 0x5204) (Register (statusOf d))
-    (pick (eqb a 0x5205) (Register (g .multiplicand * g .multiplier % 256))
-    (pick (eqb a 0x5206) (Register (g .multiplicand * g .multiplier / 256))
-    page)))))))))))))))
+registerRead g v d prg chr a page = orElse (registerAt g v d prg chr a) page
 
 -- Module 9: "The $5204 peek clears nothing": a read does. "Fetches, runs, breaks": "a CPU read of $FFFA or $FFFB" is a break; by demand 3 it clears
 -- the flag too.

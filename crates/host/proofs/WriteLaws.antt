@@ -1,5 +1,5 @@
 -- A CPU write over lent words: the groups that a register touches, put into the words, leave the words of the board's state after it.
-use Prim.Native.Nat.{ℕ, zero, suc, _+_, _*_, _-_, _/_}
+use Prim.Native.Nat.{ℕ, _+_, _-_, _/_}
 use mathlib.Core.Bool.{Bool, true, false}
 use mathlib.Core.List.{List}
 use mathlib.Core.Path.{_≡_, refl, sym, ap, _∙_}
@@ -29,7 +29,6 @@ use Rattle.state.specs.With.{withIrq, withPpu, withRegs, withVsplit}
 use Rattle.host_state.proofs.With.{withMirroring, withPrgBanks, withChrBanks, withPrgPages}
 use Rattle.banks.specs.Chr.{chrMapped}
 use Rattle.banks.specs.Names.{namesMapped}
-use Rattle.banks.specs.Prg.{windowsMapped}
 use Rattle.banks.proofs.PlacedLaws.{length-placed}
 use Rattle.cpu.specs.Groups.{within, prgBanksAfter, chrBanksAfter}
 use Rattle.cpu.specs.Writes.{mapsPrg, mapsChr, mapsNames, chrPagesAfter, registerWritten, latched, cpuStored, audioWrite}
@@ -55,12 +54,6 @@ prg-length w e = length-map (prgNumbers w) word ∙ part-length w 64 64 (omega (
 
 chr-length : (w : List ℕ) → length w ≡ 144 → length (stateOf w .«chr_pages») ≡ 16
 chr-length w e = length-map (chrNumbers w) word ∙ part-length w 128 16 (omega (arith, e))
-
-pub windows-length : (prg ram : ℕ) (free : Bool) (values : List ℕ) (pages : List PageWord) (n : ℕ) → length (windowsMapped prg ram free values pages n) ≡ length pages
-unfolding windowsMapped
-windows-length prg ram free values pages zero = refl
-windows-length prg ram free values pages (suc n) =
-    length-placed (windowsMapped prg ram free values pages n) (24 + 8 * n) _ 8 ∙ windows-length prg ram free values pages n
 
 chr-after-length : (z : Lengths) (g : Regs) (b : List ℕ) (bg : Bool) (pages : List PageWord) (a : ℕ) → length (chrPagesAfter z g b bg pages a) ≡ length pages
 unfolding chrPagesAfter chrMapped namesMapped
@@ -111,7 +104,7 @@ module _ (w : List ℕ) (a v : ℕ) (e : length w ≡ 144) (h : inRange (stateOf
       let s = stateOf w in
       let is : x ≡ prgWrite (s .lengths) (s .regs) (s .«prg_banks») (s .«prg_pages») a v = rw (ez, eg, eb, ep) at ex in
       em ∙ ap (λ (y : List ℕ). prgPageWords y (x .pages)) (el ∙ ap (λ (y : List ℕ). prgBankWords y (x .banks)) (ek ∙ ap (λ (y : List ℕ). regWords y (x .regs)) (sym (words-back w e h))))
-      ∙ prg-put s x (prg-length w e) (ap (λ (y : PrgWrite). length (y .banks)) is ∙ prg-banks-length w a v e) (ap (λ (y : PrgWrite). length (y .pages)) is ∙ windows-length _ _ _ _ (s .«prg_pages») 5 ∙ prg-length w e)
+      ∙ prg-put s x (prg-length w e) (ap (λ (y : PrgWrite). length (y .banks)) is ∙ prg-banks-length w a v e) (ap (λ (y : PrgWrite). length (y .pages)) is ∙ length-placed (s .«prg_pages») 24 _ 40 ∙ prg-length w e)
       ∙ ap wordsOf (ap (λ (y : PrgWrite). prgLeft s (y .regs) (y .banks) (y .pages)) is ∙ sym (write-prg-is s a v t))
 
   -- Any other.

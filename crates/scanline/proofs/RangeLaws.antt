@@ -10,10 +10,11 @@ use Rattle.memory.proofs.Tests.{split, and-left, and-right, and-both, pick-keep
 use Rattle.scanline.specs.declared.Detector.{Detector}
 use Rattle.scanline.specs.Fetches.{countedAt, nameAt}
 use Rattle.scanline.specs.Tiles.{tilesOk, raisedBy, leftAfter, nextTile}
-use Rattle.scanline.specs.Clock.{tick}
+use Rattle.scanline.specs.Clock.{recordOf}
 use Rattle.scanline.specs.Steps.{matchesAfter, isLine, lineNumber, seenAt, clocked}
 use Rattle.scanline.specs.Ranges.{detectorOk, lineRefused, counterRefused}
 use Rattle.scanline.specs.Kept.{RangesKept, Keeps}
+use Rattle.scanline.proofs.ClockLaws.{tick-is}
 
 idle-ok : (d : Detector) → detectorOk d ≡ true → d .«idle_count» ≤ 2
 unfolding detectorOk
@@ -29,8 +30,8 @@ ticked-idle true n = omega arith
 ticked-idle false n = omega arith
 
 clock : Keeps clocked
-unfolding detectorOk tick
-clock d r = and-both _ _ (le-leb _ _ (ticked-idle (d .reading) (d .«idle_count»))) (le-leb (d .scanline) 65279 (line-ok d r))
+unfolding detectorOk
+clock d r = rw (tick-is (recordOf d)) (and-both _ _ (le-leb _ _ (ticked-idle (d .reading) (d .«idle_count»))) (le-leb (d .scanline) 65279 (line-ok d r)))
 
 module _ (d : Detector) (a : ℕ) (counts : countedAt a ≡ true) (taken : counterRefused d a ≡ false) where
   line-taken : lineRefused d a ≡ false

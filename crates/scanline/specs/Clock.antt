@@ -30,19 +30,22 @@ withRecord d r = record {
   «irq_scanline» = d .«irq_scanline»;
 }
 
+-- a break: the next fetch has none before it, and the board is out of frame
+abbrev pub brokenRecord : ClockRecord → ClockRecord
+brokenRecord r = record { reading = r .reading; «idle_count» = r .«idle_count»; «in_frame» = false; «prev_some» = false; «prev_addr» = r .«prev_addr» }
+
+-- after this clock no fetch came yet; the idle clocks of the row are one more, counted anew from each third, or none
+abbrev pub rowAfter : ClockRecord → ClockRecord
+rowAfter r = record { reading = false; «idle_count» = pick (r .reading) 0 ((r .«idle_count» + 1) % 3); «in_frame» = r .«in_frame»; «prev_some» = r .«prev_some»; «prev_addr» = r .«prev_addr» }
+
 -- this clock is the third (or sixth, ..) of an unbroken row of idle clocks: it is idle, and two were since the row began or
 -- since its last third clock
 abbrev pub third : ClockRecord → Bool
 third r = not (r .reading) && eqb (r .«idle_count» + 1) 3
 
+-- one clock
 unfoldable pub tick : ClockRecord → ClockRecord
-tick r = record {
-  reading = false;
-  «idle_count» = pick (r .reading) 0 ((r .«idle_count» + 1) % 3);
-  «in_frame» = not (third r) && r .«in_frame»;
-  «prev_some» = not (third r) && r .«prev_some»;
-  «prev_addr» = r .«prev_addr»;
-}
+tick r = pick (third r) (brokenRecord (rowAfter r)) (rowAfter r)
 
 -- 01, "What must change shape": the clock over a record, "idle count above 2: 5, unaltered"
 abbrev pub clockOutcome : ClockRecord → ClockOutcome

@@ -8,7 +8,7 @@ use Rattle.memory.specs.Cases.{Case, is, holds, fails, right}
 use Rattle.scanline.specs.declared.Detector.{Detector}
 use Rattle.scanline.specs.Fetches.{countedAt, attributeAt, nameAt}
 use Rattle.scanline.specs.Tiles.{spriteFetch, columnOf, isPrefetched, isFirst, fold, tilesOk, raisedBy, leftAfter}
-use Rattle.scanline.specs.Steps.{matchesAfter, withRun, seenAt, clocked, broken, vectorRead, statusRead, targeted, enabledBy, statusOf, interruptUp}
+use Rattle.scanline.specs.Steps.{matchesAfter, seenAt, clocked, darkened, vectorRead, statusRead, targeted, enabledBy, statusOf, interruptUp}
 use Rattle.scanline.specs.Ranges.{detectorOk, counterRefused}
 
 -- after m fetches at $2000 equal to the one before them, with an idle count of i, in frame or not, at line n, with the interrupt's flag or not; the interrupt is disabled and the target is 5
@@ -82,7 +82,7 @@ refusals =
     -- out of frame the line counter is what the last frame left
     ∷ fails (counterRefused (at 1 0 false 65279 false) 0x2000)
     -- a fetch below $2000 counts for nothing, whatever the state handed in says was before it
-    ∷ fails (counterRefused (withRun (at 1 0 true 65279 false) 0x1FFF 1 true 65279 false) 0x1FFF)
+    ∷ fails (counterRefused (seenAt (seenAt (at 0 0 true 65279 false) 0x1FFF) 0x1FFF) 0x1FFF)
     ∷ holds (tilesOk 83)
     ∷ fails (tilesOk 84)
     ∷ holds (detectorOk (at 0 2 true 65279 false))
@@ -125,7 +125,7 @@ calls =
     ∷ is (statusOf (clocked (at 0 2 true 9 true))) 128
     ∷ is (clocked (at 0 1 true 9 true) .«idle_count») 2
     ∷ is (clocked (at 0 2 true 9 true) .«idle_count») 0
-    ∷ is (statusOf (broken (at 0 0 true 9 true))) 128
+    ∷ is (statusOf (darkened (at 0 0 true 9 true))) 128
     ∷ is (statusOf (vectorRead (at 0 0 true 9 true))) 0
     ∷ is (statusOf (statusRead (at 0 0 true 9 true))) 64
     ∷ is (statusOf (enabledBy (at 0 0 true 9 true) 0)) 192

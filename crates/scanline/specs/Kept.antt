@@ -9,7 +9,7 @@ use Rattle.answers.specs.declared.Answer.the-variants.{Nothing}
 use Rattle.scanline.specs.Fetches.{countedAt}
 use Rattle.scanline.specs.Tiles.{tilesOk, raisedBy, leftAfter}
 use Rattle.scanline.specs.Clock.{recordOf, withRecord, clockOutcome}
-use Rattle.scanline.specs.Steps.{detectorAtLoad, matchesAfter, seenAt, clocked, broken, vectorRead, statusRead, targeted, enabledBy}
+use Rattle.scanline.specs.Steps.{detectorAtLoad, matchesAfter, seenAt, clocked, darkened, vectorRead, statusRead, targeted, enabledBy}
 use Rattle.scanline.specs.Ranges.{detectorOk, counterRefused}
 
 -- a step that keeps the ranges
@@ -19,7 +19,7 @@ Keeps f = (d : Detector) → detectorOk d ≡ true → detectorOk (f d) ≡ true
 pub record RangesKept : Type 0 where
   pub at-load : detectorOk detectorAtLoad ≡ true
   pub clock : Keeps clocked
-  pub darkened : Keeps broken
+  pub darkened : Keeps darkened
   pub vector-read : Keeps vectorRead
   pub status-read : Keeps statusRead
   pub target : (v : ℕ) → Keeps (λ d. targeted d v)

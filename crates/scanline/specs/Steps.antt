@@ -7,7 +7,7 @@ use lib.Dec.{leb, eqb}
 use Rattle.memory.specs.Bits.{bitSet}
 use Rattle.memory.specs.Tests.{pick}
 use Rattle.scanline.specs.declared.Detector.{Detector}
-use Rattle.scanline.specs.Clock.{recordOf, withRecord, tick}
+use Rattle.scanline.specs.Clock.{recordOf, withRecord, brokenRecord, tick}
 
 -- 01, module 10: load gives "all else 0, off, none"
 abbrev pub detectorAtLoad : Detector
@@ -47,24 +47,20 @@ lineNumber d = pick (d .«in_frame») (d .scanline + 1) 0
 unfoldable pub meets : Detector → ℕ → Bool
 meets d a = isLine d a && (leb 1 (lineNumber d) && eqb (lineNumber d) (d .«irq_scanline»))
 
--- the detector after a fetch at a: its match count, whether in frame, the line counter and the flag are given
-abbrev pub withRun : Detector → ℕ → ℕ → Bool → ℕ → Bool → Detector
-withRun d a matches framed line flag = record {
+-- "run and line", "In frame: some line since load and the last break"
+unfoldable pub seenAt : Detector → ℕ → Detector
+seenAt d a = record {
   «prev_some» = true;
   «prev_addr» = record { 0 = a };
-  «match_count» = matches;
+  «match_count» = matchesAfter d a;
   reading = true;
   «idle_count» = d .«idle_count»;
-  «in_frame» = framed;
-  scanline = line;
-  pending = flag;
+  «in_frame» = isLine d a || d .«in_frame»;
+  scanline = pick (isLine d a) (lineNumber d) (d .scanline);
+  pending = meets d a || d .pending;
   «irq_enabled» = d .«irq_enabled»;
   «irq_scanline» = d .«irq_scanline»;
 }
-
--- "run and line", "In frame: some line since load and the last break"
-unfoldable pub seenAt : Detector → ℕ → Detector
-seenAt d a = withRun d a (matchesAfter d a) (isLine d a || d .«in_frame») (pick (isLine d a) (lineNumber d) (d .scanline)) (meets d a || d .pending)
 
 -- The other calls --------------------------------------------------------------------------------------------------------------------
 
@@ -72,36 +68,32 @@ seenAt d a = withRun d a (matchesAfter d a) (isLine d a || d .«in_frame») (pic
 abbrev pub clocked : Detector → Detector
 clocked d = withRecord d (tick (recordOf d))
 
--- the detector, its frame and the previous fetch changed, and its flag
-abbrev pub withFrame : Detector → Bool → Bool → Bool → Detector
-withFrame d some framed flag = record {
-  «prev_some» = some;
+-- "A break is a PPU register write to $2001 with bits 3 and 4 clear": the value of such a write ..
+abbrev pub dark : ℕ → Bool
+dark v = eqb (v / 8 % 4) 0
+
+-- .. and the detector after it; the flag stands
+abbrev pub darkened : Detector → Detector
+darkened d = withRecord d (brokenRecord (recordOf d))
+
+-- a CPU read of $5204 clears the flag
+abbrev pub statusRead : Detector → Detector
+statusRead d = record {
+  «prev_some» = d .«prev_some»;
   «prev_addr» = d .«prev_addr»;
   «match_count» = d .«match_count»;
   reading = d .reading;
   «idle_count» = d .«idle_count»;
-  «in_frame» = framed;
+  «in_frame» = d .«in_frame»;
   scanline = d .scanline;
-  pending = flag;
+  pending = false;
   «irq_enabled» = d .«irq_enabled»;
   «irq_scanline» = d .«irq_scanline»;
 }
 
--- "A break is a PPU register write to $2001 with bits 3 and 4 clear": the value of such a write
-abbrev pub dark : ℕ → Bool
-dark v = eqb (v / 8 % 4) 0
-
--- after it the next fetch has none before it, and the board is out of frame. The flag stands.
-abbrev pub broken : Detector → Detector
-broken d = withFrame d false false (d .pending)
-
--- a CPU read of $5204 clears the flag
-abbrev pub statusRead : Detector → Detector
-statusRead d = withFrame d (d .«prev_some») (d .«in_frame») false
-
--- "a CPU read of $FFFA or $FFFB" is a break, and clears the flag
+-- "a CPU read of $FFFA or $FFFB" is a break too, and clears the flag
 abbrev pub vectorRead : Detector → Detector
-vectorRead d = statusRead (broken d)
+vectorRead d = statusRead (darkened d)
 
 -- the two registers changed
 abbrev pub withTarget : Detector → Bool → ℕ → Detector

@@ -4,7 +4,7 @@
 // What the names mean stands in specs/: Steps.antt for the calls, Ranges.antt for what is refused.
 ghost use mathlib.Core.Path.{_≡_};
 ghost use Prim.Native.Nat.{_<_, _≤_};
-ghost use Rattle.scanline.specs.Steps.{detectorAtLoad, matchesAfter, lineNumber, seenAt, clocked, broken, vectorRead, statusRead, targeted, enabledBy, statusOf, interruptUp};
+ghost use Rattle.scanline.specs.Steps.{detectorAtLoad, matchesAfter, lineNumber, seenAt, clocked, darkened, vectorRead, statusRead, targeted, enabledBy, statusOf, interruptUp};
 ghost use Rattle.scanline.specs.Ranges.{detectorOk, lineRefused, counterRefused};
 ghost use Rattle.scanline.specs.Kept.{RangesKept, SameClock};
 ghost use Rattle.scanline.specs.Edges.{Edges};
@@ -111,7 +111,7 @@ pub fn counter_refused(d: Detector, addr: PpuAddr) -> bool
 
 // A break: PPU $2001 written with bits 3 and 4 clear. The flag stands.
 pub fn darkened(d: Detector) -> Detector
-    ensures { λ r. ⌜ r ≡ broken d ⌝ }
+    ensures { λ r. ⌜ r ≡ darkened d ⌝ }
 {
     let mut dark = d;
     dark.prev_some = false;

@@ -1,6 +1,6 @@
 -- Which groups a CPU call leaves as they are, by its address. The registers lie from $5100 to $5206: outside a read answers the page and a write
 -- changes no group; and a write that maps PRG pages changes nothing of the other side.
-use Prim.Native.Nat.{ℕ, zero, suc, _+_, _*_, _/_, _<_}
+use Prim.Native.Nat.{ℕ, zero, suc, _+_, _/_, _<_}
 use mathlib.Core.Bool.{Bool, true, false, _&&_, _||_, false≢true}
 use mathlib.Core.List.{List}
 use mathlib.Core.Path.{_≡_, refl, sym, _∙_, ap}
@@ -20,12 +20,12 @@ use Rattle.registers.specs.Registers.{written}
 use Rattle.scanline.specs.declared.Detector.{Detector}
 use Rattle.split.specs.declared.VSplit.{VSplit}
 use Rattle.banks.specs.Placed.{placed}
-use Rattle.banks.specs.Prg.{windowsMapped, prgMapped}
+use Rattle.banks.specs.Prg.{prgMapped}
 use Rattle.state.specs.declared.PpuStatus.{PpuStatus}
 use Rattle.state.specs.declared.State.{State}
 use Rattle.cpu.specs.Chosen.{ppuAfter}
 use Rattle.cpu.specs.Groups.{within, splitAfter, irqAfter, prgBanksAfter, chrBanksAfter}
-use Rattle.cpu.specs.Reads.{registerRead}
+use Rattle.cpu.specs.Reads.{registerAt, registerRead}
 use Rattle.cpu.specs.Writes.{mapsPrg, prgPagesAfter, chrPagesAfter, registerWritten, prgWordAt}
 use Rattle.steps.specs.Sides.{exramWord}
 
@@ -56,7 +56,7 @@ inside-within lo hi l h a o i =
 module _ (a : ℕ) (o : within 0x5100 0x5206 a ≡ false) where
   -- No register is read.
   pub read-idle : (g : Regs) (v : VSplit) (d : Detector) (prg chr : List ℕ) (page : Answer) → registerRead g v d prg chr a page ≡ page
-  unfolding registerRead
+  unfolding registerRead registerAt
   read-idle g v d prg chr page =
       rw (
         apart-within 0x5100 0x5206 0x5113 0x5117 a refl o,
@@ -238,12 +238,6 @@ unfolding placed
 placed-below l at f zero i d h = refl
 placed-below l at f (suc n) i d h = getD-set-other (placed l at f n) (at + n) i (f n) d (λ e. absurd (omega (arith, h, e))) ∙ placed-below l at f n i d h
 
-windows-below : (prg ram : ℕ) (free : Bool) (values : List ℕ) (pages : List PageWord) (n i : ℕ) → i < 24 → getD (windowsMapped prg ram free values pages n) i (word 0) ≡ getD pages i (word 0)
-unfolding windowsMapped
-windows-below prg ram free values pages zero i h = refl
-windows-below prg ram free values pages (suc n) i h =
-    placed-below (windowsMapped prg ram free values pages n) (24 + 8 * n) _ 8 i (word 0) (omega (arith, h)) ∙ windows-below prg ram free values pages n i h
-
 page-20 : (a : ℕ) → within 0x5100 0x5206 a ≡ true → a / 1024 ≡ 20
 page-20 a t = omega (arith, leb-true 0x5100 a (and-left (leb 0x5100 a) (leb a 0x5206) t), leb-true a 0x5206 (and-right (leb 0x5100 a) (leb a 0x5206) t))
 
@@ -252,6 +246,6 @@ unfolding registerWritten prgPagesAfter
 word-kept s a v =
     split (within 0x5100 0x5206 a)
     (λ t. rw (page-20 a t)
-    (pick-keeps (λ (l : List PageWord). getD l 20 (word 0) ≡ getD (s .«prg_pages») 20 (word 0)) (mapsPrg a) (windows-below _ _ _ _ (s .«prg_pages») 5 20 (omega arith))
+    (pick-keeps (λ (l : List PageWord). getD l 20 (word 0) ≡ getD (s .«prg_pages») 20 (word 0)) (mapsPrg a) (placed-below (s .«prg_pages») 24 _ 40 20 (word 0) (omega arith))
     (pick-keeps (λ (l : List PageWord). getD l 20 (word 0) ≡ getD (s .«prg_pages») 20 (word 0)) (eqb a 0x5104) (getD-set-other (s .«prg_pages») 23 20 _ (word 0) (λ e. absurd (omega (arith, e)))) refl)))
     (λ f. ap (λ (q : State). prgWordAt (q .«prg_pages») a) (write-idle a f s v))

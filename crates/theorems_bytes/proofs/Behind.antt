@@ -3,7 +3,7 @@
 use Prim.Native.Nat.{ℕ, zero, suc, _+_, _<_, _≤_}
 use mathlib.Core.Bool.{true, false}
 use mathlib.Core.List.{List, [], _∷_}
-use mathlib.Core.Path.{_≡_, refl, _∙_}
+use mathlib.Core.Path.{_≡_, _∙_}
 use native.Mathlib.Omega.{arith}
 use borrow.Author.Tests.{eqb-true, eqb-false, ne-eqb, le-leb, lt-leb}
 use lib.Dec.{eqb}
@@ -38,11 +38,6 @@ entry-inside l at f (suc n) k d h e =
     (λ t.
     getD-set-other (placed l at f n) (at + n) (at + k) (f n) d (λ (i : at + k ≡ at + n). eqb-false k n t (omega arith))
     ∙ entry-inside l at f n k d (omega (arith, h, eqb-false k n t)) (omega (arith, e)))
-
-pub entry-before : {A : Type 0} (l : List A) (at : ℕ) (f : ℕ → A) (n i : ℕ) (d : A) → i < at → getD (placed l at f n) i d ≡ getD l i d
-unfolding placed
-entry-before l at f zero i d h = refl
-entry-before l at f (suc n) i d h = getD-set-other (placed l at f n) (at + n) i (f n) d (λ (e : i ≡ at + n). omega arith) ∙ entry-before l at f n i d h
 
 -- Addresses --------------------------------------------------------------------------------------------------------------------------
 

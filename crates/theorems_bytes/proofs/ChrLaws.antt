@@ -1,5 +1,5 @@
 -- A pattern fetch answers CHR at its page: the eight pattern pages that a write left mapped, the set that the fetch chooses, and the byte that the page shows.
-use Prim.Native.Nat.{ℕ, zero, suc, _+_, _-_, _*_, _/_, _%_, _^_, _<_, _≤_}
+use Prim.Native.Nat.{ℕ, _+_, _*_, _/_, _%_, _<_, _≤_}
 use mathlib.Core.Bool.{Bool, true, false, _&&_}
 use mathlib.Core.List.{List}
 use mathlib.Core.Path.{_≡_, refl, sym, ap, _∙_}
@@ -41,7 +41,7 @@ use Rattle.board_ppu.proofs.SpriteLaws.{direct-page}
 use Rattle.theorems_promises.proofs.Promised.{gate-stays-open}
 use Rattle.theorems_bytes.specs.Chr.{setWanted, pageNumber, unserved, ChrBytes}
 use Rattle.theorems_bytes.specs.Taken.{byteOf}
-use Rattle.theorems_bytes.proofs.Behind.{past, recorded, write-is}
+use Rattle.theorems_bytes.proofs.Behind.{recorded, write-is}
 
 -- One page -----------------------------------------------------------------------------------------------------------------------------
 
@@ -122,18 +122,9 @@ wanted : (s : State) → patternPpu s .«bg_set» ≡ setWanted s
 unfolding chosen
 wanted s = set-of (s .ppu .sprite8x16) (spriteFetch (s .ppu .«tile_number»)) (s .irq .«in_frame») (s .ppu .«bg_written»)
 
-pages-are : (mode : ℕ) → windowPages mode ≡ 2 ^ (3 - mode)
-unfolding windowPages
-pages-are zero = refl
-pages-are (suc zero) = refl
-pages-are (suc (suc zero)) = refl
-pages-are (suc (suc (suc mode))) =
-    let n = suc (suc (suc mode)) in let e : 3 - n ≡ 0 = omega arith in
-    rw (past 0 n (omega arith), past 1 n (omega arith), past 2 n (omega arith), e)
-
 numbered : (s : State) (k : ℕ) → chrNumber (s .regs) (s .«chr_banks») (setWanted s) k ≡ pageNumber s k
-unfolding chrNumber
-numbered s k = rw (pages-are (s .regs .«chr_mode»))
+unfolding chrNumber windowPages
+numbered s k = refl
 
 -- The page answers where nothing is served in its place.
 page-answers : (s : State) (m : Mem) (a : ℕ) → gateMem s m ≡ Open → a < 0x2000 → unserved s

@@ -27,7 +27,7 @@ use Rattle.state.specs.declared.gate.Gate.the-variants.{Open}
 use Rattle.state.specs.Gate.{gateMem}
 use Rattle.state.specs.With.{withRegs}
 use Rattle.cpu.specs.Groups.{within}
-use Rattle.cpu.specs.Reads.{pageAnswer, registerRead, cpuAnswer, audioRead}
+use Rattle.cpu.specs.Reads.{pageAnswer, registerAt, registerRead, cpuAnswer, audioRead}
 use Rattle.cpu.specs.Writes.{prgPagesAfter, registerWritten, latched, prgWordAt, cpuStored}
 use Rattle.ppu.specs.Served.{countedServed, patternServed}
 use Rattle.steps.proofs.Idle.{write-idle}
@@ -133,7 +133,7 @@ reset-is s m h = rw (in-range-of s m h)
 -- Of the registers, only the modes are read as others.
 registers-alike : (g : Regs) (v : VSplit) (d : Detector) (prg chr : List ℕ) (a : ℕ) (x : Answer) → eqb a 0x5100 ≡ false → eqb a 0x5101 ≡ false
     → registerRead (resetRegs g) v d prg chr a x ≡ registerRead g v d prg chr a x
-unfolding registerRead
+unfolding registerRead registerAt
 registers-alike g v d prg chr a x p c = rw (p, c)
 
 reads-alike : (s t : State) (m : Mem) (a : ℕ) → gateMem s m ≡ Open → gateMem t m ≡ Open → cpuAnswer t m a ≡ cpuAnswer s m a

@@ -23,8 +23,8 @@ use Rattle.memory.proofs.WindowLaws.{page-inside, shown-page}
 use Rattle.memory.proofs.WordLaws.{making-is-undone}
 use Rattle.answers.specs.declared.Answer.the-variants.{Page as FromPage}
 use Rattle.registers.specs.Registers.{unlocked, written}
-use Rattle.banks.specs.Prg.{prgValues, prgValuePages, windowsMapped, prgMapped}
-use Rattle.banks.proofs.PlacedLaws.{length-placed}
+use Rattle.banks.specs.Placed.{placed}
+use Rattle.banks.specs.Prg.{prgValues, prgValuePages, pageFrom6000, prgMapped}
 use Rattle.state.specs.declared.gate.Gate.the-variants.{Open}
 use Rattle.state.specs.declared.State.{State}
 use Rattle.state.specs.Gate.{gateMem}
@@ -37,28 +37,17 @@ use Rattle.board.specs.CpuSide.{cpuRead, cpuWrite}
 use Rattle.theorems_promises.proofs.Promised.{gate-stays-open}
 use Rattle.theorems_bytes.specs.Taken.{Taken, readAt, bankByte}
 use Rattle.theorems_bytes.specs.Prg.{inWindow, valueAt, valueByte, PrgBytes}
-use Rattle.theorems_bytes.proofs.Behind.{entry-inside, entry-before, past, past-all, Recorded, recorded, write-is, read-is}
+use Rattle.theorems_bytes.proofs.Behind.{entry-inside, past, past-all, Recorded, recorded, write-is, read-is}
 
 -- Tables -----------------------------------------------------------------------------------------------------------------------------
 
-length-windows : (prg ram : ℕ) (free : Bool) (values : List ℕ) (pages : List PageWord) (n : ℕ) → length (windowsMapped prg ram free values pages n) ≡ length pages
-unfolding windowsMapped
-length-windows prg ram free values pages zero = refl
-length-windows prg ram free values pages (suc n) = length-placed (windowsMapped prg ram free values pages n) (24 + 8 * n) _ 8 ∙ length-windows prg ram free values pages n
-
--- Page i of window w, of those mapped.
-window-entry : (prg ram : ℕ) (free : Bool) (values : List ℕ) (pages : List PageWord) (n w i : ℕ) → w < n → i < 8 → 24 + 8 * n ≤ length pages
-    → getD (windowsMapped prg ram free values pages n) (24 + 8 * w + i) (word 0) ≡ getD (prgValuePages prg ram free (getD values w 0)) i (word 0)
-unfolding windowsMapped
-window-entry prg ram free values pages zero w i h k e = absurd (omega (arith, h))
-window-entry prg ram free values pages (suc n) w i h k e =
-    let f : ℕ → PageWord = λ (j : ℕ). getD (prgValuePages prg ram free (getD values n 0)) j (word 0) in
-    let l = windowsMapped prg ram free values pages n in
-    split (eqb w n)
-    (λ t. rw (eqb-true w n t) (entry-inside l (24 + 8 * n) f 8 i (word 0) k (rw (length-windows prg ram free values pages n) (omega (arith, e)))))
-    (λ t.
-    entry-before l (24 + 8 * n) f 8 (24 + 8 * w + i) (word 0) (omega (arith, h, k, eqb-false w n t))
-    ∙ window-entry prg ram free values pages n w i (omega (arith, h, eqb-false w n t)) k (omega (arith, e)))
+-- Page i of window w.
+window-entry : (prg ram : ℕ) (free : Bool) (values : List ℕ) (pages : List PageWord) (w i : ℕ) → w < 5 → i < 8 → 64 ≤ length pages
+    → getD (placed pages 24 (pageFrom6000 prg ram free values) 40) (24 + (8 * w + i)) (word 0) ≡ getD (prgValuePages prg ram free (getD values w 0)) i (word 0)
+window-entry prg ram free values pages w i h k e =
+    let window : (8 * w + i) / 8 ≡ w = omega arith in
+    let inside : (8 * w + i) % 8 ≡ i = omega arith in
+    entry-inside pages 24 (pageFrom6000 prg ram free values) 40 (8 * w + i) (word 0) (omega arith) (omega (arith, e)) ∙ rw (window, inside)
 
 -- An entry of a function's values at the numbers in a row.
 abbrev row : ℕ → ℕ → List ℕ
@@ -119,10 +108,10 @@ value-page prg ram z free v i h =
 
 -- The page at an address of window w.
 mapped-page : (prg ram : ℕ) → Sized prg ram → (free : Bool) (values : List ℕ) (pages : List PageWord) → length pages ≡ 64 → (w o : ℕ) → w < 5 → o < 8192
-    → pageOf (prgWordAt (windowsMapped prg ram free values pages 5) (inWindow w o)) ≡ valuePage prg ram free (getD values w 0) (o / 1024)
+    → pageOf (prgWordAt (placed pages 24 (pageFrom6000 prg ram free values) 40) (inWindow w o)) ≡ valuePage prg ram free (getD values w 0) (o / 1024)
 mapped-page prg ram z free values pages e w o hw ho =
-    let at : inWindow w o / 1024 ≡ 24 + 8 * w + o / 1024 = omega arith in
-    rw (at, window-entry prg ram free values pages 5 w (o / 1024) hw (omega arith) (omega (arith, e)))
+    let at : inWindow w o / 1024 ≡ 24 + (8 * w + o / 1024) = omega arith in
+    rw (at, window-entry prg ram free values pages w (o / 1024) hw (omega arith) (omega (arith, e)))
     (value-page prg ram z free (getD values w 0) (o / 1024) (omega arith))
 
 -- Bytes ------------------------------------------------------------------------------------------------------------------------------
@@ -254,7 +243,7 @@ module _ (s : State) (m : Mem) (k : Mapped s m) where
 
   page-at : (w o : ℕ) → w < 5 → o < 8192
       → pageOf (prgWordAt (s .«prg_pages») (inWindow w o)) ≡ valuePage (length (m .prg)) (length (m .ram)) (unlocked (s .regs)) (valueAt s w) (o / 1024)
-  page-at w o hw ho = rw (k .table, lent .prg, lent .ram) (mapped-page (length (m .prg)) (length (m .ram)) sized (unlocked (s .regs)) _ (k .pages) (k .long) w o hw ho)
+  page-at w o hw ho = rw (k .table, lent .prg, lent .ram) (mapped-page (length (m .prg)) (length (m .ram)) sized (unlocked (s .regs)) (prgValues (s .regs .«prg_mode») (s .«prg_banks»)) (k .pages) (k .long) w o hw ho)
 
   window-read : (w o : ℕ) → w < 5 → o < 8192 → cpuRead s m (inWindow w o) .answer ≡ valueByte m (valueAt s w) o
   window-read w o hw ho =

@@ -19,7 +19,7 @@ use Rattle.registers.specs.declared.Mirroring.{Mirroring}
 use Rattle.registers.specs.declared.Mirroring.the-variants.{Horizontal}
 use Rattle.registers.specs.Registers.{written, regsOk}
 use Rattle.banks.specs.Placed.{placed}
-use Rattle.banks.specs.Prg.{prgValues, prgValuePages, windowsMapped, exramPage}
+use Rattle.banks.specs.Prg.{prgValues, prgValuePages, exramPage}
 use Rattle.banks.specs.Chr.{windowPages, chrNumber, chrMapped}
 use Rattle.banks.specs.Names.{selector, namePage, namesMapped}
 use Rattle.scanline.specs.Tiles.{nextTile, tilesOk, spriteFetch, isFirst, isPrefetched, columnOf}
@@ -32,7 +32,7 @@ use Rattle.state.specs.Lengths.{lengthsOk}
 use Rattle.state.specs.Ranges.{inRange}
 use Rattle.cpu.specs.Chosen.{chosen, ppuAfter}
 use Rattle.cpu.specs.Groups.{splitAfter, irqAfter, prgBanksAfter, chrBanksAfter}
-use Rattle.cpu.specs.Reads.{pageAnswer, registerRead, irqRead, cpuAnswer}
+use Rattle.cpu.specs.Reads.{pageAnswer, registerAt, registerRead, irqRead, cpuAnswer}
 use Rattle.cpu.specs.Writes.{prgPagesAfter, chrPagesAfter, registerWritten, latched, cpuStored}
 use Rattle.cpu.specs.PpuRegisters.{statusAfter, detectorAfter}
 use Rattle.ppu.specs.Fetches.{cacheAfter, ppuSeen, splitSeen}
@@ -56,7 +56,7 @@ abbrev all-some : List ℕ → List (Option ℕ)
 all-some l = map some l
 
 come : (map comes edges ≡ all-some (159 ∷ 1 ∷ 254 ∷ 1 ∷ 64 ∷ 64 ∷ 64 ∷ 192 ∷ 64 ∷ 64 ∷ 0 ∷ 0 ∷ 9 ∷ 6 ∷ 6 ∷ 959 ∷ 928 ∷ [])) × (map comes shutOut ≡ all-some (1 ∷ 254 ∷ 7 ∷ 7 ∷ 63 ∷ 5 ∷ 192 ∷ 64 ∷ 192 ∷ []))
-unfolding nextTile tilesOk spriteFetch isFirst isPrefetched columnOf lineRefused counterRefused detectorOk tick again matchesAfter isLine meets seenAt offsetOf byteAt storedAt pageStored all prgMayHoldAs chrMayHoldAs wordNumber pageOf pageStart windowPage written regsOk placed prgValues prgValuePages windowsMapped exramPage windowPages chrNumber chrMapped selector namePage namesMapped sameLengths gateOf lengthsOk inRange sideAt regionAt splitAddress afterName chosen ppuAfter splitAfter irqAfter prgBanksAfter chrBanksAfter pageAnswer registerRead irqRead cpuAnswer prgPagesAfter chrPagesAfter registerWritten latched cpuStored cacheAfter ppuSeen splitSeen countedServed loadedState loadCall cpuRead cpuWrite clockCall statusAfter detectorAfter ppuRegisterCall countedCall ppuFetch chrAnswer says leaves number comes boardAfter loadAccepted accepted onto seen inTurn
+unfolding nextTile tilesOk spriteFetch isFirst isPrefetched columnOf lineRefused counterRefused detectorOk tick again matchesAfter isLine meets seenAt offsetOf byteAt storedAt pageStored all prgMayHoldAs chrMayHoldAs wordNumber pageOf pageStart windowPage written regsOk placed prgValues prgValuePages exramPage windowPages chrNumber chrMapped selector namePage namesMapped sameLengths gateOf lengthsOk inRange sideAt regionAt splitAddress afterName chosen ppuAfter splitAfter irqAfter prgBanksAfter chrBanksAfter pageAnswer registerAt registerRead irqRead cpuAnswer prgPagesAfter chrPagesAfter registerWritten latched cpuStored cacheAfter ppuSeen splitSeen countedServed loadedState loadCall cpuRead cpuWrite clockCall statusAfter detectorAfter ppuRegisterCall countedCall ppuFetch chrAnswer says leaves number comes boardAfter loadAccepted accepted onto seen inTurn
 come = (refl, refl)
 
 -- These are the values that are asked for.

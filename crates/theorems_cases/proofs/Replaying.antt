@@ -7,7 +7,7 @@ use Rattle.memory.specs.PageWords.{wordNumber, pageOf}
 use Rattle.memory.specs.Windows.{pageStart, windowPage}
 use Rattle.registers.specs.Registers.{written, regsOk}
 use Rattle.banks.specs.Placed.{placed}
-use Rattle.banks.specs.Prg.{prgValues, prgValuePages, windowsMapped, exramPage}
+use Rattle.banks.specs.Prg.{prgValues, prgValuePages, exramPage}
 use Rattle.banks.specs.Chr.{windowPages, chrNumber, chrMapped}
 use Rattle.banks.specs.Names.{selector, namePage, namesMapped}
 use Rattle.scanline.specs.Tiles.{nextTile, tilesOk, spriteFetch, isFirst, isPrefetched, columnOf}
@@ -19,7 +19,7 @@ use Rattle.state.specs.Lengths.{lengthsOk}
 use Rattle.state.specs.Ranges.{inRange}
 use Rattle.cpu.specs.Chosen.{chosen, ppuAfter}
 use Rattle.cpu.specs.Groups.{splitAfter, irqAfter, prgBanksAfter, chrBanksAfter}
-use Rattle.cpu.specs.Reads.{pageAnswer, registerRead, irqRead, cpuAnswer}
+use Rattle.cpu.specs.Reads.{pageAnswer, registerAt, registerRead, irqRead, cpuAnswer}
 use Rattle.cpu.specs.Writes.{prgPagesAfter, chrPagesAfter, registerWritten, latched, cpuStored}
 use Rattle.cpu.specs.PpuRegisters.{statusAfter, detectorAfter}
 use Rattle.ppu.specs.Fetches.{cacheAfter, ppuSeen, splitSeen}
@@ -37,7 +37,7 @@ use Rattle.player.specs.Replay.{playedFrom, replayed}
 use Rattle.theorems_cases.specs.WorkedReplay.{WorkedReplay}
 
 pub worked-replay : WorkedReplay
-unfolding nextTile tilesOk spriteFetch isFirst isPrefetched columnOf lineRefused counterRefused detectorOk tick again matchesAfter isLine meets seenAt offsetOf byteAt storedAt pageStored all prgMayHoldAs chrMayHoldAs wordNumber pageOf pageStart windowPage written regsOk placed prgValues prgValuePages windowsMapped exramPage windowPages chrNumber chrMapped selector namePage namesMapped sameLengths gateOf lengthsOk inRange chosen ppuAfter splitAfter irqAfter prgBanksAfter chrBanksAfter pageAnswer registerRead irqRead cpuAnswer prgPagesAfter chrPagesAfter registerWritten latched cpuStored cacheAfter ppuSeen splitSeen countedServed loadedState loadCall cpuRead cpuWrite clockCall statusAfter detectorAfter ppuRegisterCall countedCall ppuFetch chrAnswer countedPages cartridge grouped numeral limited numbered filled recordAt logged playedFrom replayed
+unfolding nextTile tilesOk spriteFetch isFirst isPrefetched columnOf lineRefused counterRefused detectorOk tick again matchesAfter isLine meets seenAt offsetOf byteAt storedAt pageStored all prgMayHoldAs chrMayHoldAs wordNumber pageOf pageStart windowPage written regsOk placed prgValues prgValuePages exramPage windowPages chrNumber chrMapped selector namePage namesMapped sameLengths gateOf lengthsOk inRange chosen ppuAfter splitAfter irqAfter prgBanksAfter chrBanksAfter pageAnswer registerAt registerRead irqRead cpuAnswer prgPagesAfter chrPagesAfter registerWritten latched cpuStored cacheAfter ppuSeen splitSeen countedServed loadedState loadCall cpuRead cpuWrite clockCall statusAfter detectorAfter ppuRegisterCall countedCall ppuFetch chrAnswer countedPages cartridge grouped numeral limited numbered filled recordAt logged playedFrom replayed
 worked-replay = record {
   loads = refl;
   ending = refl;

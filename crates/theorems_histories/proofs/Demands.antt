@@ -12,7 +12,7 @@ use Rattle.state.specs.declared.gate.Gate.the-variants.{Open}
 use Rattle.state.specs.declared.State.{State}
 use Rattle.state.specs.Gate.{gateMem}
 use Rattle.state.specs.Ranges.{inRange}
-use Rattle.cpu.specs.Reads.{registerRead, cpuAnswer}
+use Rattle.cpu.specs.Reads.{registerAt, registerRead, cpuAnswer}
 use Rattle.board.specs.declared.InterruptAnswer.{InterruptAnswer}
 use Rattle.board.specs.declared.InterruptAnswer.the-variants.{Up, Down, Refused as InterruptRefused}
 use Rattle.board.specs.CpuSide.{cpuRead}
@@ -56,7 +56,7 @@ asks s h = rw h
 -- What $5204 reads ----------------------------------------------------------------------------------------------------------------------
 
 reads-status : (s : State) (m : Mem) → gateMem s m ≡ Open → cpuRead s m 0x5204 .answer ≡ Register (statusOf (s .irq))
-unfolding cpuRead cpuAnswer registerRead
+unfolding cpuRead cpuAnswer registerRead registerAt
 reads-status s m h = rw h
 
 status-told : (h : History) → statusOf (run h) ≡ toldStatus h

@@ -17,10 +17,11 @@ use Rattle.banks.specs.Names.{namesMapped}
 use Rattle.banks.specs.Prg.{exramPage}
 use Rattle.banks.proofs.PlacedLaws.{length-placed}
 use Rattle.scanline.specs.declared.Detector.{Detector}
-use Rattle.scanline.specs.Clock.{tick}
+use Rattle.scanline.specs.Clock.{recordOf}
 use Rattle.scanline.specs.Fetches.{countedAt}
 use Rattle.scanline.specs.Ranges.{counterRefused}
 use Rattle.scanline.specs.Steps.{dark, again, matchesAfter, seenAt, clocked}
+use Rattle.scanline.proofs.ClockLaws.{tick-is}
 use Rattle.split.specs.declared.VSplit.{VSplit}
 use Rattle.state.specs.declared.Lengths.{Lengths}
 use Rattle.state.specs.declared.State.{State}
@@ -45,7 +46,6 @@ use Rattle.calls.specs.Called.{called}
 use Rattle.transcript.specs.Bytes.{Bytes}
 use Rattle.transcript.proofs.Small.{SmallSplit}
 use Rattle.transcript.proofs.SmallKept.{behind-keeps, split-after-small, seen-small, prg-banks-small, chr-banks-small}
-use Rattle.host.proofs.WriteLaws.{windows-length}
 use Rattle.host_state.specs.Fits.{Fits}
 
 -- Groups ---------------------------------------------------------------------------------------------------------------------------------
@@ -139,7 +139,7 @@ chr-banks-long n b a v h =
 prg-pages-long : (n : ℕ) (z : Lengths) (g : Regs) (b : List ℕ) (pages : List PageWord) (a : ℕ) → Long n pages → Long n (prgPagesAfter z g b pages a)
 unfolding prgPagesAfter
 prg-pages-long n z g b pages a h =
-    pick-keeps (Long n) (mapsPrg a) (windows-length (z .prg) (z .ram) _ _ pages 5 ∙ h)
+    pick-keeps (Long n) (mapsPrg a) (length-placed pages 24 _ 40 ∙ h)
     (pick-keeps (Long n) (eqb a 0x5104) (length-set pages 23 (exramPage (g .«exram_mode»)) ∙ h) h)
 
 chr-pages-long : (n : ℕ) (z : Lengths) (g : Regs) (b : List ℕ) (bg : Bool) (pages : List PageWord) (a : ℕ) → Long n pages → Long n (chrPagesAfter z g b bg pages a)
@@ -198,8 +198,8 @@ with-irq : (s : State) (d : Detector) → FitIrq d → FitState s → FitState (
 with-irq s d k h = record { regs = h .regs; split = h .split; irq = k; prg-banks = h .prg-banks; chr-banks = h .chr-banks; prg-pages = h .prg-pages; chr-pages = h .chr-pages }
 
 clock-fits : (s : State) → FitState s → FitOut (clockCall s)
-unfolding clockCall tick
-clock-fits s h = pick-keeps FitOut (not (inRange s)) h (with-irq s (clocked (s .irq)) (h .irq) h)
+unfolding clockCall
+clock-fits s h = pick-keeps FitOut (not (inRange s)) h (with-irq s (clocked (s .irq)) (rw (tick-is (recordOf (s .irq))) (h .irq)) h)
 
 reset-fits : (s : State) → FitState s → FitOut (resetCall s)
 unfolding resetCall

@@ -11,6 +11,7 @@ use Rattle.memory.specs.PageWords.{word}
 use Rattle.memory.proofs.Tests.{pick-keeps}
 use Rattle.registers.specs.declared.Mirroring.{Mirroring}
 use Rattle.registers.specs.Registers.{regsAtLoad}
+use Rattle.banks.proofs.PlacedLaws.{length-placed}
 use Rattle.state.specs.declared.Lengths.{Lengths}
 use Rattle.state.specs.declared.State.{State}
 use Rattle.state.specs.Lengths.{prgTaken, chrTaken, ramTaken}
@@ -30,7 +31,6 @@ use Rattle.theorems_histories.specs.Replays.{recordsTo}
 use Rattle.host_state.specs.Fits.{Fits}
 use Rattle.theorems_host.specs.Numbers.{AllInRange}
 use Rattle.theorems_host.specs.Served.{placeOfNumber, callsOfNumber}
-use Rattle.host.proofs.WriteLaws.{windows-length}
 use Rattle.theorems_host.proofs.FitKept.{FitIrq, Long, fits, groups, called-fits, length-chr, length-names}
 
 -- Load -----------------------------------------------------------------------------------------------------------------------------------
@@ -53,7 +53,7 @@ loaded-begun z k =
       irq = record { match-count = omega arith; irq-scanline = omega arith; prev-addr = omega arith };
       prg-banks = refl;
       chr-banks = refl;
-      prg-pages = windows-length (z .prg) (z .ram) _ _ (replicate 64 (word 0)) 5;
+      prg-pages = length-placed (replicate 64 (word 0)) 24 _ 40;
       chr-pages = length-names 0 false _ ∙ length-chr (z .chr) (z .«chr_writable») regsAtLoad (replicate 16 0) false (replicate 16 (word 0));
     }
 

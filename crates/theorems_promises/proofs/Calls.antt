@@ -14,7 +14,7 @@ use Rattle.memory.specs.PageWords.{word, pageOf}
 use Rattle.memory.proofs.Tests.{pick-keeps}
 use Rattle.registers.specs.declared.Mirroring.{Mirroring}
 use Rattle.registers.specs.declared.Regs.{Regs}
-use Rattle.registers.specs.Registers.{written, nametableUse, regsOk, resetRegs}
+use Rattle.registers.specs.Registers.{written, nametableUse, regsOk, regsAtLoad, resetRegs}
 use Rattle.registers.proofs.RangeLaws.{ranges-say, ranges-hold, loaded-in-range, write-keeps}
 use Rattle.scanline.specs.declared.Detector.{Detector}
 use Rattle.scanline.specs.Tiles.{tilesOk}
@@ -36,9 +36,9 @@ use Rattle.cpu.specs.Groups.{within, splitAfter, irqAfter}
 use Rattle.cpu.specs.Reads.{irqRead}
 use Rattle.cpu.specs.Writes.{mapsPrg, mapsChr, mapsNames, prgPagesAfter, chrPagesAfter, registerWritten}
 use Rattle.cpu.specs.PpuRegisters.{statusAfter, detectorAfter}
-use Rattle.board.specs.Loads.{loadedState}
+use Rattle.board.specs.Loads.{firstBanks, loadedState}
 use Rattle.board.specs.StateCalls.{ppuRegisterWritten}
-use Rattle.theorems_promises.proofs.Mapped.{Mappable, windows-keep, exram-keeps, chr-keeps, names-keep}
+use Rattle.theorems_promises.proofs.Mapped.{Mappable, prg-keeps, exram-keeps, chr-keeps, names-keep}
 
 pub mappable : (z : Lengths) → lengthsOk z ≡ true → Mappable (z .prg) (z .chr) (z .ram)
 mappable z h =
@@ -86,7 +86,7 @@ prg-pages-keep : (z : Lengths) (g : Regs) (b : List ℕ) (pages : List PageWord)
 unfolding prgPagesAfter
 prg-pages-keep z g b pages a l h =
     let m = mappable z l in
-    pick-keeps (λ (p : List PageWord). prgTableOk (z .prg) (z .ram) p ≡ true) (mapsPrg a) (windows-keep (z .prg) (z .chr) (z .ram) m _ _ pages 5 h)
+    pick-keeps (λ (p : List PageWord). prgTableOk (z .prg) (z .ram) p ≡ true) (mapsPrg a) (prg-keeps (z .prg) (z .chr) (z .ram) m g b pages h)
     (pick-keeps (λ (p : List PageWord). prgTableOk (z .prg) (z .ram) p ≡ true) (eqb a 0x5104) (exram-keeps (z .prg) (z .chr) (z .ram) m (g .«exram_mode») pages h) h)
 
 chr-pages-keep : (z : Lengths) (g : Regs) (b : List ℕ) (bg : Bool) (pages : List PageWord) (a : ℕ) → lengthsOk z ≡ true → chrTableOk (z .chr) (z .«chr_writable») pages ≡ true → chrTableOk (z .chr) (z .«chr_writable») (chrPagesAfter z g b bg pages a) ≡ true
@@ -197,6 +197,6 @@ load-in-range z mirroring l =
       vsplit = load-in-ranges;
       cache = refl;
       tiles = no-tiles;
-      prg-pages = windows-keep (z .prg) (z .chr) (z .ram) m _ _ (replicate 64 (word 0)) 5 (blank-prg (z .prg) (z .ram));
+      prg-pages = prg-keeps (z .prg) (z .chr) (z .ram) m regsAtLoad (firstBanks (z .prg)) (replicate 64 (word 0)) (blank-prg (z .prg) (z .ram));
       chr-pages = names-keep (z .prg) (z .chr) (z .ram) m (z .«chr_writable») 0 false _ (chr-keeps (z .prg) (z .chr) (z .ram) m (z .«chr_writable») _ _ _ (replicate 16 (word 0)) (blank-chr (z .chr) (z .«chr_writable»)));
     })

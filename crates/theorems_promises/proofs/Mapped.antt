@@ -19,9 +19,10 @@ use Rattle.memory.proofs.Tests.{split, and-left, and-right, and-both, pick-keep
 use Rattle.memory.proofs.WindowLaws.{page-inside, shown-page}
 use Rattle.memory.proofs.WordLaws.{making-is-undone}
 use Rattle.registers.specs.declared.Regs.{Regs}
+use Rattle.registers.specs.Registers.{unlocked}
 use Rattle.banks.specs.Chr.{chrNumber, chrMapped}
 use Rattle.banks.specs.Names.{selector, namePage, namesMapped}
-use Rattle.banks.specs.Prg.{prgValuePages, ramBank, windowsMapped, exramPage}
+use Rattle.banks.specs.Prg.{ramBank, prgValues, prgValuePages, pageFrom6000, prgMapped, exramPage}
 use Rattle.banks.proofs.PlacedLaws.{all-set, all-placed}
 
 -- A test of a page that has a word holds of the page that the word names.
@@ -108,13 +109,11 @@ module _ (prg chr ram : ℕ) (m : Mappable prg chr ram) where
       (all-map inPrg (windowWord PrgRom prg (v % 128) false) (0 ∷ 1 ∷ 2 ∷ 3 ∷ 4 ∷ 5 ∷ 6 ∷ 7 ∷ []) (λ i. rom-shows prg ram (v % 128) i (m .prg-least) (m .prg-whole) (m .prg-most)))
       (all-map inPrg (windowWord PrgRam ram (ramBank v) free) (0 ∷ 1 ∷ 2 ∷ 3 ∷ 4 ∷ 5 ∷ 6 ∷ 7 ∷ []) (λ i. ram-shows prg ram (ramBank v) i free (m .ram-whole) (m .ram-most)))
 
-  pub windows-keep : (free : Bool) (values : List ℕ) (pages : List PageWord) (n : ℕ) → prgTableOk prg ram pages ≡ true → prgTableOk prg ram (windowsMapped prg ram free values pages n) ≡ true
-  unfolding windowsMapped
-  windows-keep free values pages zero h = h
-  windows-keep free values pages (suc n) h =
-      all-placed inPrg (windowsMapped prg ram free values pages n) (24 + 8 * n) (λ (k : ℕ). getD (prgValuePages prg ram free (getD values n 0)) k (word 0)) 8
-      (windows-keep free values pages n h)
-      (λ k. all-getD inPrg (prgValuePages prg ram free (getD values n 0)) k (word 0) (shown-in-prg free (getD values n 0)) blank-in-prg)
+  pub prg-keeps : (g : Regs) (b : List ℕ) (pages : List PageWord) → prgTableOk prg ram pages ≡ true → prgTableOk prg ram (prgMapped prg ram g b pages) ≡ true
+  prg-keeps g b pages h =
+      let shown : ℕ → ℕ = λ (k : ℕ). getD (prgValues (g .«prg_mode») b) (k / 8) 0 in
+      all-placed inPrg pages 24 (pageFrom6000 prg ram (unlocked g) (prgValues (g .«prg_mode») b)) 40 h
+      (λ k. all-getD inPrg (prgValuePages prg ram (unlocked g) (shown k)) (k % 8) (word 0) (shown-in-prg (unlocked g) (shown k)) blank-in-prg)
 
   pub exram-keeps : (mode : ℕ) (pages : List PageWord) → prgTableOk prg ram pages ≡ true → prgTableOk prg ram (set pages 23 (exramPage mode)) ≡ true
   unfolding exramPage namedAs prgMayHoldAs

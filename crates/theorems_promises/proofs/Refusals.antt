@@ -2,13 +2,11 @@
 use Prim.Native.Nat.{ℕ}
 use mathlib.Core.Bool.{Bool, true, false}
 use mathlib.Core.Path.{_≡_, refl}
-use lib.Dec.{eqb}
 use Rattle.memory.specs.declared.Src.{Src}
 use Rattle.memory.specs.declared.Src.the-variants.{Blank, PrgRom, PrgRam, Chr, CiRam, ExRam}
 use Rattle.memory.specs.Bytes.{Mem, pageByte}
 use Rattle.memory.specs.Tests.{pick}
 use Rattle.memory.specs.PageWords.{pageOf}
-use Rattle.memory.proofs.Tests.{pick-keeps}
 use Rattle.answers.specs.declared.Answer.{Answer}
 use Rattle.answers.specs.declared.Answer.the-variants.{Refused}
 use Rattle.answers.specs.declared.Refusal.the-variants.{Audio}
@@ -16,9 +14,9 @@ use Rattle.answers.specs.Refused.{isRefused}
 use Rattle.state.specs.declared.gate.Gate.{Gate}
 use Rattle.state.specs.declared.gate.Gate.the-variants.{Open, Shut}
 use Rattle.state.specs.declared.State.{State}
-use Rattle.cpu.specs.Groups.{within}
-use Rattle.cpu.specs.Reads.{answeredAs, pageAnswer, registerRead, cpuAnswer}
+use Rattle.cpu.specs.Reads.{answeredAs, pageAnswer, registerAt, registerRead, cpuAnswer}
 use Rattle.cpu.specs.Writes.{prgWordAt}
+use Rattle.cpu.proofs.ReadLaws.{or-keeps}
 use Rattle.board.specs.Outcomes.{outcome, refused, behind}
 
 abbrev pub Given : Answer → Type 0
@@ -36,23 +34,8 @@ shown-is-given ExRam v = refl
 pub answer-is-given : (s : State) (m : Mem) (a : ℕ) → Given (cpuAnswer s m a)
 unfolding cpuAnswer registerRead pageAnswer
 answer-is-given s m a =
-    pick-keeps Given (within 0x5113 0x5117 a) refl
-    (pick-keeps Given (within 0x5120 0x512B a) refl
-    (pick-keeps Given (eqb a 0x5100) refl
-    (pick-keeps Given (eqb a 0x5101) refl
-    (pick-keeps Given (eqb a 0x5104) refl
-    (pick-keeps Given (eqb a 0x5105) refl
-    (pick-keeps Given (eqb a 0x5106) refl
-    (pick-keeps Given (eqb a 0x5107) refl
-    (pick-keeps Given (eqb a 0x5130) refl
-    (pick-keeps Given (eqb a 0x5200) refl
-    (pick-keeps Given (eqb a 0x5201) refl
-    (pick-keeps Given (eqb a 0x5202) refl
-    (pick-keeps Given (eqb a 0x5203) refl
-    (pick-keeps Given (eqb a 0x5204) refl
-    (pick-keeps Given (eqb a 0x5205) refl
-    (pick-keeps Given (eqb a 0x5206) refl
-    (shown-is-given (pageOf (prgWordAt (s .«prg_pages») a) .src) (pageByte m (pageOf (prgWordAt (s .«prg_pages») a)) a)))))))))))))))))
+    or-keeps Given (registerAt (s .regs) (s .vsplit) (s .irq) (s .«prg_banks») (s .«chr_banks») a) _ (λ v. refl)
+    (shown-is-given (pageOf (prgWordAt (s .«prg_pages») a) .src) (pageByte m (pageOf (prgWordAt (s .«prg_pages») a)) a))
 
 -- A peek answers as the read does, at an open gate and at a shut one.
 pub same-behind : (g : Gate) (s : State) (b : Bool) (x : Answer) (t : State)

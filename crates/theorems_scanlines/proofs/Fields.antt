@@ -1,7 +1,7 @@
 -- What a call does to each field of the detector, as one equation a field: `step`, which goes by calls, turned round.
 -- Assumes nothing.
 use Prim.Native.Nat.{ℕ, _+_, _/_, _%_}
-use mathlib.Core.Path.{_≡_, refl}
+use mathlib.Core.Path.{_≡_, refl, ap}
 use mathlib.Core.Bool.{Bool, true, false, not, _&&_, _||_}
 use borrow.Author.Tests.{eqb-true}
 use lib.Dec.{leb, eqb}
@@ -10,8 +10,9 @@ use Rattle.memory.specs.Tests.{pick}
 use Rattle.memory.proofs.Tests.{split}
 use Rattle.scanline.specs.declared.Detector.{Detector}
 use Rattle.scanline.specs.Fetches.{countedAt}
-use Rattle.scanline.specs.Clock.{recordOf, third, tick}
+use Rattle.scanline.specs.Clock.{recordOf, withRecord, third}
 use Rattle.scanline.specs.Steps.{dark, matchesAfter, isLine, lineNumber, meets, seenAt}
+use Rattle.scanline.proofs.ClockLaws.{tick-is}
 use Rattle.theorems_scanlines.specs.Events.{Event, isClock, fetches, reads, writes, darkens, address, value, counts, vectors, clears}
 use Rattle.theorems_scanlines.specs.Events.Event.{clock, fetch, cpuRead, cpuWrite, ppuRegister, other}
 use Rattle.theorems_scanlines.specs.Machine.{step}
@@ -42,8 +43,8 @@ stepped d e = record {
 }
 
 pub by-fields : (d : Detector) (e : Event) → step d e ≡ stepped d e
-unfolding step stepped resets strikes strikesTarget tick seenAt isClock fetches reads writes darkens address value counts vectors clears
-by-fields d clock = refl
+unfolding step stepped resets strikes strikesTarget seenAt isClock fetches reads writes darkens address value counts vectors clears
+by-fields d clock = ap (withRecord d) (tick-is (recordOf d))
 by-fields d (fetch a) = split (countedAt a) (λ t. rw t) (λ t. rw t)
 by-fields d (cpuRead a) = split (eqb a 0xFFFA || eqb a 0xFFFB) (λ t. rw t) (λ t. rw t (split (eqb a 0x5204) (λ u. rw u) (λ u. rw u)))
 by-fields d (cpuWrite a v) =

@@ -10,7 +10,7 @@ use Rattle.memory.specs.Tests.{pick}
 use Rattle.scanline.specs.declared.Detector.{Detector}
 use Rattle.scanline.specs.Fetches.{countedAt, nameAt}
 use Rattle.scanline.specs.Tiles.{leftAfter}
-use Rattle.scanline.specs.Steps.{detectorAtLoad, matchesAfter, meets, seenAt, clocked, dark, broken, vectorRead, statusRead, targeted, enabledBy}
+use Rattle.scanline.specs.Steps.{detectorAtLoad, matchesAfter, meets, seenAt, clocked, dark, darkened, vectorRead, statusRead, targeted, enabledBy}
 use Rattle.scanline.specs.Ranges.{counterRefused}
 use Rattle.theorems_scanlines.specs.Events.{Event}
 use Rattle.theorems_scanlines.specs.Events.Event.{clock, fetch, cpuRead, cpuWrite, ppuRegister, other}
@@ -21,7 +21,7 @@ step d clock = clocked d
 step d (fetch a) = pick (countedAt a) (seenAt d a) d
 step d (cpuRead a) = pick (eqb a 0xFFFA || eqb a 0xFFFB) (vectorRead d) (pick (eqb a 0x5204) (statusRead d) d)
 step d (cpuWrite a v) = pick (eqb a 0x5203) (targeted d v) (pick (eqb a 0x5204) (enabledBy d v) d)
-step d (ppuRegister a v) = pick (eqb a 0x2001 && dark v) (broken d) d
+step d (ppuRegister a v) = pick (eqb a 0x2001 && dark v) (darkened d) d
 step d other = d
 
 -- after all calls of a history, taken or not

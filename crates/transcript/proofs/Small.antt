@@ -3,6 +3,7 @@
 use Prim.Native.Nat.{ℕ, zero, suc, _+_, _*_, _/_, _%_, _<_}
 use mathlib.Core.Bool.{Bool, true, false, _&&_, not}
 use mathlib.Core.List.{List, [], _∷_}
+use mathlib.Core.Option.{Option, none, some, Option·getD}
 use native.Mathlib.Nat.{mul-le-mul}
 use native.Mathlib.Omega.{arith}
 use lib.Dec.{eqb}
@@ -27,7 +28,7 @@ use Rattle.split.specs.Places.{mirroredByte}
 use Rattle.state.specs.declared.PpuStatus.{PpuStatus}
 use Rattle.state.specs.declared.State.{State}
 use Rattle.cpu.specs.Groups.{within}
-use Rattle.cpu.specs.Reads.{answeredAs, pageAnswer, registerRead, cpuAnswer}
+use Rattle.cpu.specs.Reads.{answeredAs, pageAnswer, orElse, registerAt, registerRead, cpuAnswer}
 use Rattle.ppu.specs.Served.{direct, splitByte, splitServes, countedServed, patternServed}
 use Rattle.transcript.specs.Bytes.{Bytes, SmallMem}
 
@@ -94,26 +95,39 @@ status-small true false = omega arith
 status-small false true = omega arith
 status-small false false = omega arith
 
+-- A register's value, if there is one.
+abbrev SmallValue : Option ℕ → Type 0
+SmallValue o = Option·getD o 0 < 256
+
+or-small : (o : Option ℕ) (page : Answer) → SmallValue o → SmallAnswer page → SmallAnswer (orElse o page)
+or-small none page h k = k
+or-small (some v) page h k = h
+
+register-small : (s : State) (a : ℕ) → SmallState s → SmallValue (registerAt (s .regs) (s .vsplit) (s .irq) (s .«prg_banks») (s .«chr_banks») a)
+unfolding registerAt
+register-small s a h =
+    pick-keeps SmallValue (within 0x5113 0x5117 a) (h .prg-banks _)
+    (pick-keeps SmallValue (within 0x5120 0x512B a) (h .chr-banks _)
+    (pick-keeps SmallValue (eqb a 0x5100) (h .regs .prg-mode)
+    (pick-keeps SmallValue (eqb a 0x5101) (h .regs .chr-mode)
+    (pick-keeps SmallValue (eqb a 0x5104) (h .regs .exram-mode)
+    (pick-keeps SmallValue (eqb a 0x5105) (h .regs .nametables)
+    (pick-keeps SmallValue (eqb a 0x5106) (h .regs .fill-tile)
+    (pick-keeps SmallValue (eqb a 0x5107) (h .regs .fill-attr)
+    (pick-keeps SmallValue (eqb a 0x5130) (omega arith)
+    (pick-keeps SmallValue (eqb a 0x5200) (h .split .mode)
+    (pick-keeps SmallValue (eqb a 0x5201) (h .split .scroll)
+    (pick-keeps SmallValue (eqb a 0x5202) (h .split .bank)
+    (pick-keeps SmallValue (eqb a 0x5203) (h .line)
+    (pick-keeps SmallValue (eqb a 0x5204) (status-small (s .irq .pending) (s .irq .«in_frame»))
+    (pick-keeps SmallValue (eqb a 0x5205) (omega arith)
+    (pick-keeps SmallValue (eqb a 0x5206) (product-small (s .regs .multiplicand) (s .regs .multiplier) (h .regs .multiplicand) (h .regs .multiplier))
+    (omega arith))))))))))))))))
+
 pub read-small : (s : State) (m : Mem) (a : ℕ) → SmallState s → SmallMem m → SmallAnswer (cpuAnswer s m a)
 unfolding cpuAnswer registerRead
 read-small s m a h k =
-    pick-keeps SmallAnswer (within 0x5113 0x5117 a) (h .prg-banks _)
-    (pick-keeps SmallAnswer (within 0x5120 0x512B a) (h .chr-banks _)
-    (pick-keeps SmallAnswer (eqb a 0x5100) (h .regs .prg-mode)
-    (pick-keeps SmallAnswer (eqb a 0x5101) (h .regs .chr-mode)
-    (pick-keeps SmallAnswer (eqb a 0x5104) (h .regs .exram-mode)
-    (pick-keeps SmallAnswer (eqb a 0x5105) (h .regs .nametables)
-    (pick-keeps SmallAnswer (eqb a 0x5106) (h .regs .fill-tile)
-    (pick-keeps SmallAnswer (eqb a 0x5107) (h .regs .fill-attr)
-    (pick-keeps SmallAnswer (eqb a 0x5130) (omega arith)
-    (pick-keeps SmallAnswer (eqb a 0x5200) (h .split .mode)
-    (pick-keeps SmallAnswer (eqb a 0x5201) (h .split .scroll)
-    (pick-keeps SmallAnswer (eqb a 0x5202) (h .split .bank)
-    (pick-keeps SmallAnswer (eqb a 0x5203) (h .line)
-    (pick-keeps SmallAnswer (eqb a 0x5204) (status-small (s .irq .pending) (s .irq .«in_frame»))
-    (pick-keeps SmallAnswer (eqb a 0x5205) (omega arith)
-    (pick-keeps SmallAnswer (eqb a 0x5206) (product-small (s .regs .multiplicand) (s .regs .multiplier) (h .regs .multiplicand) (h .regs .multiplier))
-    (page-small m _ a k))))))))))))))))
+    or-small (registerAt (s .regs) (s .vsplit) (s .irq) (s .«prg_banks») (s .«chr_banks») a) _ (register-small s a h) (page-small m _ a k)
 
 -- What is served in the page's place -------------------------------------------------------------------------------------------------
 

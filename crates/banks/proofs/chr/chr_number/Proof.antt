@@ -1,7 +1,7 @@
 -- The register lies in its set (`register-inside`), the number fits (`number-fits`), and it is what the callees say.
 use native.Mathlib.Omega.{arith}
 use borrow.Author.Needs.{needs}
-use Rattle.banks.specs.Chr.{chrNumber}
+use Rattle.banks.specs.Chr.{windowPages, chrNumber}
 use Rattle.banks.proofs.BankLaws.{register-inside, set-start-most, size-most, place-inside, number-fits}
 use Rattle.banks.proofs.chr.chr_number.Statement.{statement}
 use Rattle.banks.proofs.chr.chr_number.Tie as tie
@@ -23,7 +23,7 @@ add-result : tie.Need-add-result
 add-result c = omega (arith, number-fits (c .before .before .with-hi .result) (c .before .window-pages .result) (c .place-in .result) (search needs) (rw (c .before .window-pages .ensures) (size-most (c .before .before .before .before .before .args .regs .«chr_mode»))) (rw (c .place-in .ensures) (place-inside (c .before .before .before .before .before .args .regs .«chr_mode») (c .before .before .before .before .before .args .k))))
 
 returns : tie.Need-returns
-unfolding chrNumber
+unfolding chrNumber windowPages
 returns c = rw (c .place-in .ensures, c .before .window-pages .ensures, c .before .before .with-hi .ensures, c .before .before .before .register-at .ensures, c .before .before .before .before .if-background .ensures)
 
 pub chr-number-spec : {M : Type 1} → statement M

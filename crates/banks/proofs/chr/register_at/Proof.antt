@@ -1,8 +1,8 @@
 -- Each arm is a mode, whose window size is a number.
 use native.Mathlib.Omega.{arith}
 use borrow.Author.Needs.{needs}
-use borrow.Author.Tests.{ne-eqb}
 use Rattle.banks.specs.Chr.{windowPages}
+use Rattle.banks.proofs.BankLaws.{one-page}
 use Rattle.banks.proofs.chr.register_at.Statement.{statement}
 use Rattle.banks.proofs.chr.register_at.Tie as tie
 
@@ -19,8 +19,7 @@ unfolding windowPages
 returns-3 c = rw (c .match .keys3) (omega arith)
 
 returns-4 : tie.Need-returns-4
-unfolding windowPages
-returns-4 c = simp (ne-eqb _ _ (c .match .rest .0 .0 .1), ne-eqb _ _ (c .match .rest .0 .1), ne-eqb _ _ (c .match .rest .1)) (omega arith)
+returns-4 c = rw (one-page (c .before .args .mode) (omega (arith, c .match .rest .0 .0 .1, c .match .rest .0 .1, c .match .rest .1))) (omega arith)
 
 pub register-at-spec : {M : Type 1} → statement M
 register-at-spec =

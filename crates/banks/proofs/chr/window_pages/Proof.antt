@@ -1,6 +1,7 @@
 -- Each arm is a mode.
-use borrow.Author.Tests.{ne-eqb}
+use native.Mathlib.Omega.{arith}
 use Rattle.banks.specs.Chr.{windowPages}
+use Rattle.banks.proofs.BankLaws.{one-page}
 use Rattle.banks.proofs.chr.window_pages.Statement.{statement}
 use Rattle.banks.proofs.chr.window_pages.Tie as tie
 
@@ -17,8 +18,7 @@ unfolding windowPages
 returns-3 c = rw (c .match .keys3)
 
 returns-4 : tie.Need-returns-4
-unfolding windowPages
-returns-4 c = simp (ne-eqb _ _ (c .match .rest .0 .0 .1), ne-eqb _ _ (c .match .rest .0 .1), ne-eqb _ _ (c .match .rest .1))
+returns-4 c = rw (one-page (c .before .args .mode) (omega (arith, c .match .rest .0 .0 .1, c .match .rest .0 .1, c .match .rest .1)))
 
 pub window-pages-spec : {M : Type 1} → statement M
 window-pages-spec = tie.close (tie.spec returns returns-2 returns-3 returns-4)

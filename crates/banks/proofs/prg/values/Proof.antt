@@ -1,4 +1,5 @@
 -- Each arm is a mode, its list that of the drawing.
+use native.Mathlib.Nat.{add-zero}
 use borrow.Author.Needs.{needs}
 use borrow.Author.Tests.{ne-eqb}
 use Rattle.banks.specs.Prg.{prgValues}
@@ -7,7 +8,7 @@ use Rattle.banks.proofs.prg.values.Tie as tie
 
 returns : tie.Need-returns
 unfolding prgValues
-returns c = rw (c .match .keys1, c .before .rom-of .ensures)
+returns c = rw (add-zero, c .match .keys1, c .before .rom-of .ensures)
 
 returns-2 : tie.Need-returns-2
 unfolding prgValues

@@ -4,7 +4,7 @@ use mathlib.Core.Path.{sym, _∙_}
 use native.Mathlib.Omega.{arith}
 use borrow.Author.Needs.{needs}
 use borrow.Author.Tests.{ne-eqb}
-use Rattle.cpu.specs.Reads.{registerRead}
+use Rattle.cpu.specs.Reads.{registerAt, registerRead}
 use Rattle.cpu.proofs.Addresses.{from, upto}
 use Rattle.cpu.proofs.reads.register_or.Statement.{statement}
 use Rattle.cpu.proofs.reads.register_or.Tie as tie
@@ -22,7 +22,7 @@ array-read-t17 c =
     omega arith
 
 returns : tie.Need-returns
-unfolding registerRead
+unfolding registerRead registerAt
 returns c = rw (← c .before .before .is-within .ensures, c .before .if1 .taken)
 
 sub-at-2 : tie.Need-sub-at-2
@@ -38,67 +38,67 @@ array-read-t22 c =
     omega arith
 
 returns-2 : tie.Need-returns-2
-unfolding registerRead
+unfolding registerRead registerAt
 returns-2 c = rw (← c .before .before .before .before .is-within .ensures, c .before .before .before .if1 .left, ← c .before .before .is-within2 .ensures, c .before .if2 .taken)
 
 returns-3 : tie.Need-returns-3
-unfolding registerRead
+unfolding registerRead registerAt
 returns-3 c = rw (c .match .keys1)
 
 returns-4 : tie.Need-returns-4
-unfolding registerRead
+unfolding registerRead registerAt
 returns-4 c = rw (c .match .keys2)
 
 returns-5 : tie.Need-returns-5
-unfolding registerRead
+unfolding registerRead registerAt
 returns-5 c = rw (c .match .keys3)
 
 returns-6 : tie.Need-returns-6
-unfolding registerRead
+unfolding registerRead registerAt
 returns-6 c = rw (c .match .keys4)
 
 returns-7 : tie.Need-returns-7
-unfolding registerRead
+unfolding registerRead registerAt
 returns-7 c = rw (c .match .keys5)
 
 returns-8 : tie.Need-returns-8
-unfolding registerRead
+unfolding registerRead registerAt
 returns-8 c = rw (c .match .keys6)
 
 returns-9 : tie.Need-returns-9
-unfolding registerRead
+unfolding registerRead registerAt
 returns-9 c = rw (c .match .keys7)
 
 returns-10 : tie.Need-returns-10
-unfolding registerRead
+unfolding registerRead registerAt
 returns-10 c = rw (c .match .keys8)
 
 returns-11 : tie.Need-returns-11
-unfolding registerRead
+unfolding registerRead registerAt
 returns-11 c = rw (c .match .keys9)
 
 returns-12 : tie.Need-returns-12
-unfolding registerRead
+unfolding registerRead registerAt
 returns-12 c = rw (c .match .keys10)
 
 returns-13 : tie.Need-returns-13
-unfolding registerRead
+unfolding registerRead registerAt
 returns-13 c = rw (c .match .keys11)
 
 returns-14 : tie.Need-returns-14
-unfolding registerRead
+unfolding registerRead registerAt
 returns-14 c = rw (c .before .match .keys12, c .status .ensures)
 
 returns-15 : tie.Need-returns-15
-unfolding registerRead
+unfolding registerRead registerAt
 returns-15 c = rw (c .before .match .keys13, c .product .ensures)
 
 returns-16 : tie.Need-returns-16
-unfolding registerRead
+unfolding registerRead registerAt
 returns-16 c = rw (c .before .match .keys14, c .product2 .ensures)
 
 returns-17 : tie.Need-returns-17
-unfolding registerRead
+unfolding registerRead registerAt
 returns-17 c =
     simp (
       ← c .before .before .before .before .is-within .ensures,
