@@ -110,7 +110,7 @@ module _ (w : List ℕ) (a v : ℕ) (e : length w ≡ 144) (h : inRange (stateOf
   -- Any other.
   pub other-words : (z : Lengths) (g : Regs) (q : VSplit) (d : Detector) (p : PpuStatus) (r : Mirroring) (b : List ℕ) (pages : List PageWord) (u : PageWord)
       (x : OtherWrite) (w₁ w₂ w₃ w₄ w₅ w₆ w₇ w₈ : List ℕ) → mapsPrg a ≡ false
-      → z ≡ lengthsOf w → g ≡ regsOf w → q ≡ splitOf w → d ≡ detectorOf w → p ≡ statusOf w → r ≡ mirroringNumbered (getD w 15 0)
+      → z ≡ lengthsOf w → g ≡ regsOf w → q ≡ splitOf w → d ≡ detectorOf w → p ≡ statusOf w → r ≡ mirroringNumbered (getD w 23 0)
       → b ≡ chrBanksOf w → pages ≡ pagesOf (chrNumbers w) → u ≡ getD (pagesOf (prgNumbers w)) 23 (word 0) → x ≡ otherWrite z g q d p r b pages u a v
       → w₁ ≡ regWords w (x .regs) → w₂ ≡ splitWords w₁ (x .vsplit) → w₃ ≡ irqWords w₂ (x .irq) → w₄ ≡ statusWords w₃ (x .ppu) → w₅ ≡ mirroringWords w₄ (x .mirroring)
       → w₆ ≡ chrBankWords w₅ (x .banks) → w₇ ≡ exramWords w₆ (x .exram) → w₈ ≡ chrPageWords w₇ (x .pages)

@@ -42,29 +42,29 @@ module _ (w : List ℕ) (h : withinLimits w ≡ true) where
   byte : (k : ℕ) → k < 64 → getD limits k 0 ≤ 255 → byteAt w k ≡ getD w k 0
   byte k small l = omega (arith, l, limit-at w k h small)
 
-  mirroring : numberOfMirroring (mirroringNumbered (getD w 15 0)) ≡ getD w 15 0
+  mirroring : numberOfMirroring (mirroringNumbered (getD w 23 0)) ≡ getD w 23 0
   unfolding limits
-  mirroring = mirroring-small (getD w 15 0) (limit-at w 15 h (omega arith))
+  mirroring = mirroring-small (getD w 23 0) (limit-at w 23 h (omega arith))
 
-  hi : getD w 33 0 % 4 * 256 / 256 ≡ getD w 33 0
+  hi : getD w 38 0 % 4 * 256 / 256 ≡ getD w 38 0
   unfolding limits
-  hi = let m : getD w 33 0 ≤ 3 = limit-at w 33 h (omega arith) in omega (arith, m)
+  hi = let m : getD w 38 0 ≤ 3 = limit-at w 38 h (omega arith) in omega (arith, m)
 
-  prg : inWord ((getD w 38 0 + 1) * 8192 / 8192 - 1) ≡ getD w 38 0
+  prg : inWord ((getD w 39 0 + 1) * 8192 / 8192 - 1) ≡ getD w 39 0
   unfolding limits
-  prg = let m : getD w 38 0 ≤ 127 = limit-at w 38 h (omega arith) in omega (arith, m)
+  prg = let m : getD w 39 0 ≤ 127 = limit-at w 39 h (omega arith) in omega (arith, m)
 
-  chr : inWord (getD w 39 0 * 1024 / 1024) ≡ getD w 39 0
+  chr : inWord (getD w 40 0 * 1024 / 1024) ≡ getD w 40 0
   unfolding limits
-  chr = let m : getD w 39 0 ≤ 1024 = limit-at w 39 h (omega arith) in omega (arith, m)
+  chr = let m : getD w 40 0 ≤ 1024 = limit-at w 40 h (omega arith) in omega (arith, m)
 
-  ram : inWord (getD w 40 0 * 1024 / 1024) ≡ getD w 40 0
+  ram : inWord (getD w 41 0 * 1024 / 1024) ≡ getD w 41 0
   unfolding limits
-  ram = let m : getD w 40 0 ≤ 64 = limit-at w 40 h (omega arith) in omega (arith, m)
+  ram = let m : getD w 41 0 ≤ 64 = limit-at w 41 h (omega arith) in omega (arith, m)
 
-  tiles : inWord (getD w 41 0) ≡ getD w 41 0
+  tiles : inWord (getD w 12 0) ≡ getD w 12 0
   unfolding limits
-  tiles = let m : getD w 41 0 ≤ 83 = limit-at w 41 h (omega arith) in omega (arith, m)
+  tiles = let m : getD w 12 0 ≤ 83 = limit-at w 12 h (omega arith) in omega (arith, m)
 
   spare : getD w 63 0 ≡ 0
   unfolding limits
@@ -80,21 +80,21 @@ module _ (w : List ℕ) (h : withinLimits w ≡ true) where
   numbers tables =
       rw (
         h,
+        flag 16 (omega arith) (omega arith),
+        flag 17 (omega arith) (omega arith),
+        flag 18 (omega arith) (omega arith),
+        flag 19 (omega arith) (omega arith),
+        flag 20 (omega arith) (omega arith),
+        flag 10 (omega arith) (omega arith),
         flag 0 (omega arith) (omega arith),
-        flag 1 (omega arith) (omega arith),
-        flag 2 (omega arith) (omega arith),
         flag 3 (omega arith) (omega arith),
-        flag 4 (omega arith) (omega arith),
         flag 5 (omega arith) (omega arith),
-        flag 6 (omega arith) (omega arith),
         flag 7 (omega arith) (omega arith),
         flag 8 (omega arith) (omega arith),
-        flag 9 (omega arith) (omega arith),
-        flag 10 (omega arith) (omega arith),
-        flag 11 (omega arith) (omega arith),
-        flag 12 (omega arith) (omega arith),
-        flag 13 (omega arith) (omega arith),
+        flag 21 (omega arith) (omega arith),
+        flag 22 (omega arith) (omega arith),
         flag 14 (omega arith) (omega arith),
+        flag 15 (omega arith) (omega arith),
         mirroring,
         hi,
         prg,
@@ -102,14 +102,6 @@ module _ (w : List ℕ) (h : withinLimits w ≡ true) where
         ram,
         tiles,
         spare,
-        byte 16 (omega arith) (omega arith),
-        byte 17 (omega arith) (omega arith),
-        byte 18 (omega arith) (omega arith),
-        byte 19 (omega arith) (omega arith),
-        byte 20 (omega arith) (omega arith),
-        byte 21 (omega arith) (omega arith),
-        byte 22 (omega arith) (omega arith),
-        byte 23 (omega arith) (omega arith),
         byte 24 (omega arith) (omega arith),
         byte 25 (omega arith) (omega arith),
         byte 26 (omega arith) (omega arith),
@@ -119,6 +111,14 @@ module _ (w : List ℕ) (h : withinLimits w ≡ true) where
         byte 30 (omega arith) (omega arith),
         byte 31 (omega arith) (omega arith),
         byte 32 (omega arith) (omega arith),
+        byte 33 (omega arith) (omega arith),
+        byte 34 (omega arith) (omega arith),
+        byte 35 (omega arith) (omega arith),
+        byte 36 (omega arith) (omega arith),
+        byte 37 (omega arith) (omega arith),
+        byte 2 (omega arith) (omega arith),
+        byte 4 (omega arith) (omega arith),
+        byte 9 (omega arith) (omega arith),
         bank 42 5 0 (omega arith) (omega arith) (omega arith),
         bank 42 5 1 (omega arith) (omega arith) (omega arith),
         bank 42 5 2 (omega arith) (omega arith) (omega arith),

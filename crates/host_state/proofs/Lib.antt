@@ -1,6 +1,7 @@
 pub mod MappedLaws
 pub mod PartLaws
 pub mod LimitLaws
+pub mod MovingLaws
 pub mod Within
 pub mod GateLaws
 pub mod With

@@ -9,8 +9,9 @@ use native.Mathlib.Omega.{arith}
 use borrow.Author.Tests.{leb-true, leb-false, eq-eqb, ne-eqb}
 use lib.Bits.{bitOr, or-zero-l, or-add-and, and-le-r}
 use lib.Dec.{eqb, leb, leb·zero, eqb·suc-zero}
-use lib.ListN.{length, take, getD}
-use Rattle.memory.proofs.Tests.{split, and-left, and-right}
+use lib.ListN.{length, take, drop, getD}
+use lib.Seq.{getD-drop}
+use Rattle.memory.proofs.Tests.{split, and-left, and-right, and-true}
 use Rattle.host_state.specs.Words.{limits, allWithin, withinLimits}
 
 -- Each of the words.
@@ -22,7 +23,7 @@ within-at (l ∷ ls) (x ∷ w) zero e h = leb-true x l (and-left (leb x l) (allW
 within-at (l ∷ ls) (x ∷ w) (suc k) e h = within-at ls w k (and-right (leb x l) (allWithin ls w) e) (omega (arith, h))
 
 -- One word more.
-within-next : (ls w : List ℕ) (i : ℕ) → i < length ls → allWithin (take (suc i) ls) w ≡ allWithin (take i ls) w && leb (getD w i 0) (getD ls i 0)
+pub within-next : (ls w : List ℕ) (i : ℕ) → i < length ls → allWithin (take (suc i) ls) w ≡ allWithin (take i ls) w && leb (getD w i 0) (getD ls i 0)
 unfolding allWithin
 within-next [] w i h = absurd (omega (arith, h))
 within-next (l ∷ ls) [] zero h = rw (leb·zero l)
@@ -44,18 +45,30 @@ excess-none x l =
     (λ t. rw t (eq-eqb (x - l) 0 (omega (arith, leb-true x l t))))
     (λ f. rw f (ne-eqb (x - l) 0 (λ e. omega (arith, e, leb-false x l f))))
 
--- The excesses of the first i words, gathered.
-pub record Gathered (ls w : List ℕ) (above i : ℕ) : Type 0 where
-  pub none : eqb above 0 ≡ allWithin (take i ls) w
+-- The first sixteen words within, by another test, and the excesses of the i after them, gathered.
+pub record Gathered (w : List ℕ) (first : Bool) (above i : ℕ) : Type 0 where
+  pub none : first && eqb above 0 ≡ allWithin (take (16 + i) limits) w
 
-pub gather-first : (ls w : List ℕ) → Gathered ls w 0 0
-unfolding allWithin
-gather-first ls w = record { none = refl }
+pub gather-first : (w : List ℕ) (first : Bool) → first ≡ allWithin (take 16 limits) w → Gathered w first 0 0
+gather-first w first e = record { none = and-true first ∙ e }
 
-pub gather-next : (ls w : List ℕ) (above i more : ℕ) → Gathered ls w above i → i < length ls → more ≡ getD w i 0 - getD ls i 0 → Gathered ls w (bitOr above more) (i + 1)
-gather-next ls w above i more g h e =
-    record { none = rw (add-one i, e, or-none above (getD w i 0 - getD ls i 0), excess-none (getD w i 0) (getD ls i 0), g .none) (sym (within-next ls w i h)) }
+and-next : (a b c : Bool) → a && (b && c) ≡ (a && b) && c
+and-next true b c = refl
+and-next false b c = refl
 
-pub gather-last : (w : List ℕ) (above i : ℕ) → Gathered limits w above i → i ≤ 64 → 64 ≤ i → eqb above 0 ≡ withinLimits w
+pub gather-next : (w : List ℕ) (first : Bool) (above i more : ℕ) → Gathered w first above i → i < 48 → more ≡ getD w (16 + i) 0 - getD (drop 16 limits) i 0
+    → Gathered w first (bitOr above more) (i + 1)
+unfolding limits
+gather-next w first above i more g h e =
+    let k = 16 + i in
+    let next : 16 + (i + 1) ≡ suc k = omega arith in
+    let test = leb (getD w k 0) (getD limits k 0) in
+    record {
+      none =
+          rw (next, e, getD-drop 16 limits i 0, or-none above (getD w k 0 - getD limits k 0), excess-none (getD w k 0) (getD limits k 0), and-next first (eqb above 0) test, g .none)
+          (sym (within-next limits w k (omega (arith, h))));
+    }
+
+pub gather-last : (w : List ℕ) (first : Bool) (above i : ℕ) → Gathered w first above i → i ≤ 48 → 48 ≤ i → first && eqb above 0 ≡ withinLimits w
 unfolding withinLimits limits
-gather-last w above i g high low = let end : i ≡ 64 = omega (arith, high, low) in g .none ∙ ap (λ (k : ℕ). allWithin (take k limits) w) end
+gather-last w first above i g high low = let end : i ≡ 48 = omega (arith, high, low) in g .none ∙ ap (λ (k : ℕ). allWithin (take (16 + k) limits) w) end

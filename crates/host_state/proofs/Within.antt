@@ -38,60 +38,60 @@ module _ (w : List ℕ) (h : withinLimits w ≡ true) where
   unfolding regsOk limits
   regs-within =
       rw (
-        small-byte (getD w 16 0) 3 (limit-at w 16 h (omega arith)),
-        small-byte (getD w 17 0) 3 (limit-at w 17 h (omega arith)),
-        small-byte (getD w 18 0) 3 (limit-at w 18 h (omega arith)),
-        small-byte (getD w 19 0) 3 (limit-at w 19 h (omega arith)),
-        small-byte (getD w 20 0) 3 (limit-at w 20 h (omega arith)),
-        small-byte (getD w 23 0) 3 (limit-at w 23 h (omega arith)),
-        hi-whole (getD w 33 0),
-        hi-small (getD w 33 0),
+        small-byte (getD w 24 0) 3 (limit-at w 24 h (omega arith)),
+        small-byte (getD w 25 0) 3 (limit-at w 25 h (omega arith)),
+        small-byte (getD w 26 0) 3 (limit-at w 26 h (omega arith)),
+        small-byte (getD w 27 0) 3 (limit-at w 27 h (omega arith)),
+        small-byte (getD w 28 0) 3 (limit-at w 28 h (omega arith)),
+        small-byte (getD w 31 0) 3 (limit-at w 31 h (omega arith)),
+        hi-whole (getD w 38 0),
+        hi-small (getD w 38 0),
       )
 
   split-within : splitRanges (splitOf w) ≡ true
   unfolding limits
-  split-within = rw (small-byte (getD w 27 0) 31 (limit-at w 27 h (omega arith)), le-leb (getD w 34 0) 959 (limit-at w 34 h (omega arith)))
+  split-within = rw (small-byte (getD w 35 0) 31 (limit-at w 35 h (omega arith)), le-leb (getD w 11 0) 959 (limit-at w 11 h (omega arith)))
 
   detector-within : detectorOk (detectorOf w) ≡ true
   unfolding detectorOk limits
-  detector-within = rw (small-byte (getD w 31 0) 2 (limit-at w 31 h (omega arith)), le-leb (getD w 36 0) 65279 (limit-at w 36 h (omega arith)))
+  detector-within = rw (small-byte (getD w 4 0) 2 (limit-at w 4 h (omega arith)), le-leb (getD w 6 0) 65279 (limit-at w 6 h (omega arith)))
 
-  cache-within : leb (getD w 37 0) 1023 ≡ true
+  cache-within : leb (getD w 13 0) 1023 ≡ true
   unfolding limits
-  cache-within = le-leb (getD w 37 0) 1023 (limit-at w 37 h (omega arith))
+  cache-within = le-leb (getD w 13 0) 1023 (limit-at w 13 h (omega arith))
 
-  tiles-within : tilesOk (getD w 41 0) ≡ true
+  tiles-within : tilesOk (getD w 12 0) ≡ true
   unfolding tilesOk limits
-  tiles-within = le-leb (getD w 41 0) 83 (limit-at w 41 h (omega arith))
+  tiles-within = le-leb (getD w 12 0) 83 (limit-at w 12 h (omega arith))
 
   -- The lengths that load takes.
   pub prg-small : lengthsOf w .prg ≤ 1048576
   unfolding limits
-  prg-small = let m : getD w 38 0 ≤ 127 = limit-at w 38 h (omega arith) in omega (arith, m)
+  prg-small = let m : getD w 39 0 ≤ 127 = limit-at w 39 h (omega arith) in omega (arith, m)
 
   pub chr-small : lengthsOf w .chr ≤ 1048576
   unfolding limits
-  chr-small = let m : getD w 39 0 ≤ 1024 = limit-at w 39 h (omega arith) in omega (arith, m)
+  chr-small = let m : getD w 40 0 ≤ 1024 = limit-at w 40 h (omega arith) in omega (arith, m)
 
   pub ram-small : lengthsOf w .ram ≤ 65536
   unfolding limits
-  ram-small = let m : getD w 40 0 ≤ 64 = limit-at w 40 h (omega arith) in omega (arith, m)
+  ram-small = let m : getD w 41 0 ≤ 64 = limit-at w 41 h (omega arith) in omega (arith, m)
 
-  lengths-within : lengthsOk (lengthsOf w) ≡ flagAt w 0
+  lengths-within : lengthsOk (lengthsOf w) ≡ flagAt w 16
   unfolding lengthsOk
   lengths-within =
       rw (
-        eq-eqb ((getD w 38 0 + 1) * 8192 % 8192) 0 (omega arith),
-        le-leb 8192 ((getD w 38 0 + 1) * 8192) (omega arith),
-        le-leb ((getD w 38 0 + 1) * 8192) 1048576 prg-small,
-        eq-eqb (getD w 39 0 * 1024 % 1024) 0 (omega arith),
-        le-leb (getD w 39 0 * 1024) 1048576 chr-small,
+        eq-eqb ((getD w 39 0 + 1) * 8192 % 8192) 0 (omega arith),
+        le-leb 8192 ((getD w 39 0 + 1) * 8192) (omega arith),
+        le-leb ((getD w 39 0 + 1) * 8192) 1048576 prg-small,
         eq-eqb (getD w 40 0 * 1024 % 1024) 0 (omega arith),
-        le-leb (getD w 40 0 * 1024) 65536 ram-small,
-      ) (split (flagAt w 0) (λ t. rw t) (λ t. rw t))
+        le-leb (getD w 40 0 * 1024) 1048576 chr-small,
+        eq-eqb (getD w 41 0 * 1024 % 1024) 0 (omega arith),
+        le-leb (getD w 41 0 * 1024) 65536 ram-small,
+      ) (split (flagAt w 16) (λ t. rw t) (λ t. rw t))
 
   range-within : inRange (stateOf w)
-      ≡ flagAt w 0 && (prgTableOk (lengthsOf w .prg) (lengthsOf w .ram) (pagesOf (prgNumbers w)) && chrTableOk (lengthsOf w .chr) (lengthsOf w .«chr_writable») (pagesOf (chrNumbers w)))
+      ≡ flagAt w 16 && (prgTableOk (lengthsOf w .prg) (lengthsOf w .ram) (pagesOf (prgNumbers w)) && chrTableOk (lengthsOf w .chr) (lengthsOf w .«chr_writable») (pagesOf (chrNumbers w)))
   unfolding inRange
   range-within = rw (h, lengths-within, regs-within, split-within, detector-within, cache-within, tiles-within)
 
@@ -104,11 +104,11 @@ above-limit w f =
     (split (detectorOk (detectorOf w)) (λ b. rw b
     (split (regsOk (regsOf w)) (λ c. rw c
     (split (splitRanges (splitOf w)) (λ d. rw d
-    (split (leb (getD w 37 0) 1023) (λ e. rw e) (λ e. rw e))) (λ d. rw d))) (λ c. rw c))) (λ b. rw b))) (λ a. rw a))
+    (split (leb (getD w 13 0) 1023) (λ e. rw e) (λ e. rw e))) (λ d. rw d))) (λ c. rw c))) (λ b. rw b))) (λ a. rw a))
 
 pub ranges-of : (w : List ℕ)
     → inRange (stateOf w)
-    ≡ withinLimits w && (flagAt w 0
+    ≡ withinLimits w && (flagAt w 16
     && (prgTableOk (lengthsOf w .prg) (lengthsOf w .ram) (pagesOf (prgNumbers w)) && chrTableOk (lengthsOf w .chr) (lengthsOf w .«chr_writable») (pagesOf (chrNumbers w))))
 ranges-of w = split (withinLimits w) (λ t. range-within w t ∙ rw t) (λ f. above-limit w f ∙ rw f)
 

@@ -23,20 +23,22 @@ use Rattle.state.specs.declared.State.{State}
 -- The most that each of the first 64 words may be: 01, "STATE ranges", and refusals 1 to 3 for the lengths; a flag is 0 or 1, a byte at most 255.
 unfoldable pub limits : List ℕ
 limits =
-    -- 0-14: flags
-    1 ∷ 1 ∷ 1 ∷ 1 ∷ 1 ∷ 1 ∷ 1 ∷ 1 ∷ 1 ∷ 1 ∷ 1 ∷ 1 ∷ 1 ∷ 1 ∷ 1
-    -- 15: mirroring
+    -- 0-9: the detector, in the order of its fields
+    1 ∷ 65535 ∷ 255 ∷ 1 ∷ 2 ∷ 1 ∷ 65279 ∷ 1 ∷ 1 ∷ 255
+    -- 10-15: in region, tile address, tile count (CR 7), tile cache, the CHR set, the last CHR write's
+    ∷ 1 ∷ 959 ∷ 83 ∷ 1023 ∷ 1 ∷ 1
+    -- 16-22: flags
+    ∷ 1 ∷ 1 ∷ 1 ∷ 1 ∷ 1 ∷ 1 ∷ 1
+    -- 23: mirroring
     ∷ 4
-    -- 16-25: modes, protection, ExRAM mode, $5105, fill, multiplier
+    -- 24-33: modes, protection, ExRAM mode, $5105, fill, multiplier
     ∷ 3 ∷ 3 ∷ 3 ∷ 3 ∷ 3 ∷ 255 ∷ 255 ∷ 3 ∷ 255 ∷ 255
-    -- 26-29: the split's registers
+    -- 34-37: the split's registers
     ∷ 255 ∷ 31 ∷ 255 ∷ 255
-    -- 30-32: match count, idle count, $5203
-    ∷ 255 ∷ 2 ∷ 255
-    -- 33-37: $5130, tile address, previous address, line counter, tile cache
-    ∷ 3 ∷ 959 ∷ 65535 ∷ 65279 ∷ 1023
-    -- 38-41: the lengths; the tile count (CR 7)
-    ∷ 127 ∷ 1024 ∷ 64 ∷ 83
+    -- 38: $5130
+    ∷ 3
+    -- 39-41: the lengths
+    ∷ 127 ∷ 1024 ∷ 64
     -- 42-46: $5113-$5117
     ∷ 255 ∷ 255 ∷ 255 ∷ 255 ∷ 255
     -- 47-62: $5120-$512B
@@ -77,48 +79,48 @@ numberOfMirroring SingleScreenA = 2
 numberOfMirroring SingleScreenB = 3
 numberOfMirroring FourScreen = 4
 
--- 38: PRG-ROM in banks of 8 KiB less one; 39 and 40: CHR and PRG-RAM in KiB. CIRAM and ExRAM have one length that load takes.
+-- 39: PRG-ROM in banks of 8 KiB less one; 40 and 41: CHR and PRG-RAM in KiB. CIRAM and ExRAM have one length that load takes.
 abbrev pub lengthsOf : List ℕ → Lengths
 lengthsOf w =
     record {
-      loaded = flagAt w 0;
-      prg = (getD w 38 0 + 1) * 8192;
-      chr = getD w 39 0 * 1024;
-      ram = getD w 40 0 * 1024;
+      loaded = flagAt w 16;
+      prg = (getD w 39 0 + 1) * 8192;
+      chr = getD w 40 0 * 1024;
+      ram = getD w 41 0 * 1024;
       ciram = 2048;
       exram = 1024;
-      «chr_writable» = flagAt w 1;
+      «chr_writable» = flagAt w 17;
     }
 
--- 33: `chr_hi` is 0, 256, 512 or 768, its word 0 to 3.
+-- 38: `chr_hi` is 0, 256, 512 or 768, its word 0 to 3.
 abbrev pub regsOf : List ℕ → Regs
 regsOf w =
     record {
-      «prg_mode» = byteAt w 16;
-      «chr_mode» = byteAt w 17;
-      «protect_a» = byteAt w 18;
-      «protect_b» = byteAt w 19;
-      «exram_mode» = byteAt w 20;
-      «exram_chosen» = flagAt w 2;
-      nametables = byteAt w 21;
-      «fill_tile» = byteAt w 22;
-      «fill_attr» = byteAt w 23;
-      «chr_hi» = getD w 33 0 % 4 * 256;
-      multiplicand = byteAt w 24;
-      multiplier = byteAt w 25;
+      «prg_mode» = byteAt w 24;
+      «chr_mode» = byteAt w 25;
+      «protect_a» = byteAt w 26;
+      «protect_b» = byteAt w 27;
+      «exram_mode» = byteAt w 28;
+      «exram_chosen» = flagAt w 18;
+      nametables = byteAt w 29;
+      «fill_tile» = byteAt w 30;
+      «fill_attr» = byteAt w 31;
+      «chr_hi» = getD w 38 0 % 4 * 256;
+      multiplicand = byteAt w 32;
+      multiplier = byteAt w 33;
     }
 
 abbrev pub splitOf : List ℕ → VSplit
 splitOf w =
     record {
-      mode = byteAt w 26;
-      enabled = flagAt w 3;
-      right = flagAt w 4;
-      tile = byteAt w 27;
-      scroll = byteAt w 28;
-      bank = byteAt w 29;
-      «in_region» = flagAt w 5;
-      «tile_addr» = getD w 34 0;
+      mode = byteAt w 34;
+      enabled = flagAt w 19;
+      right = flagAt w 20;
+      tile = byteAt w 35;
+      scroll = byteAt w 36;
+      bank = byteAt w 37;
+      «in_region» = flagAt w 10;
+      «tile_addr» = getD w 11 0;
     }
 
 abbrev pub ppuAddr : ℕ → PpuAddr
@@ -127,27 +129,27 @@ ppuAddr n = record { 0 = n }
 abbrev pub detectorOf : List ℕ → Detector
 detectorOf w =
     record {
-      «prev_some» = flagAt w 6;
-      «prev_addr» = ppuAddr (getD w 35 0);
-      «match_count» = byteAt w 30;
-      reading = flagAt w 7;
-      «idle_count» = byteAt w 31;
-      «in_frame» = flagAt w 8;
-      scanline = getD w 36 0;
-      pending = flagAt w 9;
-      «irq_enabled» = flagAt w 10;
-      «irq_scanline» = byteAt w 32;
+      «prev_some» = flagAt w 0;
+      «prev_addr» = ppuAddr (getD w 1 0);
+      «match_count» = byteAt w 2;
+      reading = flagAt w 3;
+      «idle_count» = byteAt w 4;
+      «in_frame» = flagAt w 5;
+      scanline = getD w 6 0;
+      pending = flagAt w 7;
+      «irq_enabled» = flagAt w 8;
+      «irq_scanline» = byteAt w 9;
     }
 
 abbrev pub statusOf : List ℕ → PpuStatus
 statusOf w =
     record {
-      «tile_number» = getD w 41 0;
-      «tile_cache» = getD w 37 0;
-      sprite8x16 = flagAt w 11;
-      rendering = flagAt w 12;
-      «bg_set» = flagAt w 13;
-      «bg_written» = flagAt w 14;
+      «tile_number» = getD w 12 0;
+      «tile_cache» = getD w 13 0;
+      sprite8x16 = flagAt w 21;
+      rendering = flagAt w 22;
+      «bg_set» = flagAt w 14;
+      «bg_written» = flagAt w 15;
     }
 
 -- A tile count that no board in range has (CR 7: "0 to 83").
@@ -191,7 +193,7 @@ stateOf w =
       vsplit = splitOf w;
       irq = detectorOf w;
       ppu = pick (withinLimits w) (statusOf w) (withNoTile (statusOf w));
-      screen = record { mirroring = mirroringNumbered (getD w 15 0) };
+      screen = record { mirroring = mirroringNumbered (getD w 23 0) };
       «prg_banks» = prgBanksOf w;
       «chr_banks» = chrBanksOf w;
       «prg_pages» = pagesOf (prgNumbers w);
@@ -205,17 +207,18 @@ inWord n = n % 65536
 -- The words that stand for a state: the numbers, the spare word, the tables.
 abbrev pub numbersAt : State → List ℕ → List ℕ
 numbersAt s tables =
-    asBit (s .lengths .loaded) ∷ asBit (s .lengths .«chr_writable») ∷ asBit (s .regs .«exram_chosen»)
-    ∷ asBit (s .vsplit .enabled) ∷ asBit (s .vsplit .right) ∷ asBit (s .vsplit .«in_region»)
-    ∷ asBit (s .irq .«prev_some») ∷ asBit (s .irq .reading) ∷ asBit (s .irq .«in_frame») ∷ asBit (s .irq .pending) ∷ asBit (s .irq .«irq_enabled»)
-    ∷ asBit (s .ppu .sprite8x16) ∷ asBit (s .ppu .rendering) ∷ asBit (s .ppu .«bg_set») ∷ asBit (s .ppu .«bg_written»)
+    asBit (s .irq .«prev_some») ∷ s .irq .«prev_addr» .0 ∷ s .irq .«match_count» ∷ asBit (s .irq .reading) ∷ s .irq .«idle_count»
+    ∷ asBit (s .irq .«in_frame») ∷ s .irq .scanline ∷ asBit (s .irq .pending) ∷ asBit (s .irq .«irq_enabled») ∷ s .irq .«irq_scanline»
+    ∷ asBit (s .vsplit .«in_region») ∷ s .vsplit .«tile_addr» ∷ inWord (s .ppu .«tile_number») ∷ s .ppu .«tile_cache»
+    ∷ asBit (s .ppu .«bg_set») ∷ asBit (s .ppu .«bg_written»)
+    ∷ asBit (s .lengths .loaded) ∷ asBit (s .lengths .«chr_writable») ∷ asBit (s .regs .«exram_chosen»)
+    ∷ asBit (s .vsplit .enabled) ∷ asBit (s .vsplit .right) ∷ asBit (s .ppu .sprite8x16) ∷ asBit (s .ppu .rendering)
     ∷ numberOfMirroring (s .screen .mirroring)
     ∷ s .regs .«prg_mode» ∷ s .regs .«chr_mode» ∷ s .regs .«protect_a» ∷ s .regs .«protect_b» ∷ s .regs .«exram_mode»
     ∷ s .regs .nametables ∷ s .regs .«fill_tile» ∷ s .regs .«fill_attr» ∷ s .regs .multiplicand ∷ s .regs .multiplier
     ∷ s .vsplit .mode ∷ s .vsplit .tile ∷ s .vsplit .scroll ∷ s .vsplit .bank
-    ∷ s .irq .«match_count» ∷ s .irq .«idle_count» ∷ s .irq .«irq_scanline»
-    ∷ s .regs .«chr_hi» / 256 ∷ s .vsplit .«tile_addr» ∷ s .irq .«prev_addr» .0 ∷ s .irq .scanline ∷ s .ppu .«tile_cache»
-    ∷ inWord (s .lengths .prg / 8192 - 1) ∷ inWord (s .lengths .chr / 1024) ∷ inWord (s .lengths .ram / 1024) ∷ inWord (s .ppu .«tile_number»)
+    ∷ s .regs .«chr_hi» / 256
+    ∷ inWord (s .lengths .prg / 8192 - 1) ∷ inWord (s .lengths .chr / 1024) ∷ inWord (s .lengths .ram / 1024)
     ∷ getD (s .«prg_banks») 0 0 ∷ getD (s .«prg_banks») 1 0 ∷ getD (s .«prg_banks») 2 0 ∷ getD (s .«prg_banks») 3 0 ∷ getD (s .«prg_banks») 4 0
     ∷ getD (s .«chr_banks») 0 0 ∷ getD (s .«chr_banks») 1 0 ∷ getD (s .«chr_banks») 2 0 ∷ getD (s .«chr_banks») 3 0
     ∷ getD (s .«chr_banks») 4 0 ∷ getD (s .«chr_banks») 5 0 ∷ getD (s .«chr_banks») 6 0 ∷ getD (s .«chr_banks») 7 0

@@ -42,13 +42,13 @@ pub fn lengths_of(words: &[u16; 144]) -> Lengths
     ensures { λ r. ⌜ r ≡ lengthsOf (now (words .entry)) ⌝ }
 {
     Lengths {
-        loaded: words[0] == 1,
-        prg: (wide(words[38]) + 1) * 8192,
-        chr: wide(words[39]) * 1024,
-        ram: wide(words[40]) * 1024,
+        loaded: words[16] == 1,
+        prg: (wide(words[39]) + 1) * 8192,
+        chr: wide(words[40]) * 1024,
+        ram: wide(words[41]) * 1024,
         ciram: 2048,
         exram: 1024,
-        chr_writable: words[1] == 1,
+        chr_writable: words[17] == 1,
     }
 }
 
@@ -56,18 +56,18 @@ pub fn regs_of(words: &[u16; 144]) -> Regs
     ensures { λ r. ⌜ r ≡ regsOf (now (words .entry)) ⌝ }
 {
     Regs {
-        prg_mode: low(words[16]),
-        chr_mode: low(words[17]),
-        protect_a: low(words[18]),
-        protect_b: low(words[19]),
-        exram_mode: low(words[20]),
-        exram_chosen: words[2] == 1,
-        nametables: low(words[21]),
-        fill_tile: low(words[22]),
-        fill_attr: low(words[23]),
-        chr_hi: words[33] % 4 * 256,
-        multiplicand: low(words[24]),
-        multiplier: low(words[25]),
+        prg_mode: low(words[24]),
+        chr_mode: low(words[25]),
+        protect_a: low(words[26]),
+        protect_b: low(words[27]),
+        exram_mode: low(words[28]),
+        exram_chosen: words[18] == 1,
+        nametables: low(words[29]),
+        fill_tile: low(words[30]),
+        fill_attr: low(words[31]),
+        chr_hi: words[38] % 4 * 256,
+        multiplicand: low(words[32]),
+        multiplier: low(words[33]),
     }
 }
 
@@ -75,14 +75,14 @@ pub fn split_of(words: &[u16; 144]) -> VSplit
     ensures { λ r. ⌜ r ≡ splitOf (now (words .entry)) ⌝ }
 {
     VSplit {
-        mode: low(words[26]),
-        enabled: words[3] == 1,
-        right: words[4] == 1,
-        tile: low(words[27]),
-        scroll: low(words[28]),
-        bank: low(words[29]),
-        in_region: words[5] == 1,
-        tile_addr: words[34],
+        mode: low(words[34]),
+        enabled: words[19] == 1,
+        right: words[20] == 1,
+        tile: low(words[35]),
+        scroll: low(words[36]),
+        bank: low(words[37]),
+        in_region: words[10] == 1,
+        tile_addr: words[11],
     }
 }
 
@@ -90,16 +90,16 @@ pub fn detector_of(words: &[u16; 144]) -> Detector
     ensures { λ r. ⌜ r ≡ detectorOf (now (words .entry)) ⌝ }
 {
     Detector {
-        prev_some: words[6] == 1,
-        prev_addr: PpuAddr(words[35]),
-        match_count: low(words[30]),
-        reading: words[7] == 1,
-        idle_count: low(words[31]),
-        in_frame: words[8] == 1,
-        scanline: words[36],
-        pending: words[9] == 1,
-        irq_enabled: words[10] == 1,
-        irq_scanline: low(words[32]),
+        prev_some: words[0] == 1,
+        prev_addr: PpuAddr(words[1]),
+        match_count: low(words[2]),
+        reading: words[3] == 1,
+        idle_count: low(words[4]),
+        in_frame: words[5] == 1,
+        scanline: words[6],
+        pending: words[7] == 1,
+        irq_enabled: words[8] == 1,
+        irq_scanline: low(words[9]),
     }
 }
 
@@ -107,19 +107,19 @@ pub fn status_of(words: &[u16; 144]) -> PpuStatus
     ensures { λ r. ⌜ r ≡ statusOf (now (words .entry)) ⌝ }
 {
     PpuStatus {
-        tile_number: wide(words[41]),
-        tile_cache: words[37],
-        sprite8x16: words[11] == 1,
-        rendering: words[12] == 1,
-        bg_set: words[13] == 1,
-        bg_written: words[14] == 1,
+        tile_number: wide(words[12]),
+        tile_cache: words[13],
+        sprite8x16: words[21] == 1,
+        rendering: words[22] == 1,
+        bg_set: words[14] == 1,
+        bg_written: words[15] == 1,
     }
 }
 
 pub fn mirroring_of(words: &[u16; 144]) -> Mirroring
-    ensures { λ r. ⌜ r ≡ mirroringNumbered (getD (now (words .entry)) 15 0) ⌝ }
+    ensures { λ r. ⌜ r ≡ mirroringNumbered (getD (now (words .entry)) 23 0) ⌝ }
 {
-    mirroring_numbered(words[15])
+    mirroring_numbered(words[23])
 }
 
 pub fn prg_banks_of(words: &[u16; 144]) -> [u8; 5]

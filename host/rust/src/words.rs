@@ -3,74 +3,75 @@
 /// How many words a state has.
 pub const COUNT: usize = 144;
 
-// Flags, 0 or 1.
-pub const LOADED: usize = 0;
-pub const CHR_WRITABLE: usize = 1;
-/// $5104 was written.
-pub const EXRAM_CHOSEN: usize = 2;
-pub const SPLIT_ENABLED: usize = 3;
-pub const SPLIT_RIGHT: usize = 4;
-pub const IN_REGION: usize = 5;
+// The scanline detector.
 /// The previous address is there.
-pub const PREVIOUS_THERE: usize = 6;
-pub const READING: usize = 7;
-pub const IN_FRAME: usize = 8;
-pub const PENDING: usize = 9;
-pub const IRQ_ENABLED: usize = 10;
-pub const SPRITES_8X16: usize = 11;
-pub const RENDERING: usize = 12;
-pub const BACKGROUND_SET: usize = 13;
-/// The last CHR write was to the background.
-pub const BACKGROUND_WRITTEN: usize = 14;
+pub const PREVIOUS_THERE: usize = 0;
+pub const PREVIOUS_ADDRESS: usize = 1;
+pub const MATCH_COUNT: usize = 2;
+pub const READING: usize = 3;
+pub const IDLE_COUNT: usize = 4;
+pub const IN_FRAME: usize = 5;
+pub const LINE_COUNTER: usize = 6;
+pub const PENDING: usize = 7;
+pub const IRQ_ENABLED: usize = 8;
+/// $5203.
+pub const IRQ_LINE: usize = 9;
 
-pub const MIRRORING: usize = 15;
+// What else a fetch changes.
+pub const IN_REGION: usize = 10;
+pub const TILE_ADDRESS: usize = 11;
+pub const TILE_COUNT: usize = 12;
+pub const TILE_CACHE: usize = 13;
+pub const BACKGROUND_SET: usize = 14;
+/// The last CHR write was to the background.
+pub const BACKGROUND_WRITTEN: usize = 15;
+
+// Flags, 0 or 1.
+pub const LOADED: usize = 16;
+pub const CHR_WRITABLE: usize = 17;
+/// $5104 was written.
+pub const EXRAM_CHOSEN: usize = 18;
+pub const SPLIT_ENABLED: usize = 19;
+pub const SPLIT_RIGHT: usize = 20;
+pub const SPRITES_8X16: usize = 21;
+pub const RENDERING: usize = 22;
+
+pub const MIRRORING: usize = 23;
 
 // Registers.
-pub const PRG_MODE: usize = 16;
-pub const CHR_MODE: usize = 17;
+pub const PRG_MODE: usize = 24;
+pub const CHR_MODE: usize = 25;
 /// $5102.
-pub const PROTECT_A: usize = 18;
+pub const PROTECT_A: usize = 26;
 /// $5103.
-pub const PROTECT_B: usize = 19;
-pub const EXRAM_MODE: usize = 20;
+pub const PROTECT_B: usize = 27;
+pub const EXRAM_MODE: usize = 28;
 /// $5105.
-pub const NAMETABLES: usize = 21;
-pub const FILL_TILE: usize = 22;
-pub const FILL_ATTRIBUTE: usize = 23;
-pub const MULTIPLICAND: usize = 24;
-pub const MULTIPLIER: usize = 25;
+pub const NAMETABLES: usize = 29;
+pub const FILL_TILE: usize = 30;
+pub const FILL_ATTRIBUTE: usize = 31;
+pub const MULTIPLICAND: usize = 32;
+pub const MULTIPLIER: usize = 33;
 
 // The split.
 /// $5200.
-pub const SPLIT_MODE: usize = 26;
-pub const SPLIT_TILE: usize = 27;
+pub const SPLIT_MODE: usize = 34;
+pub const SPLIT_TILE: usize = 35;
 /// $5201.
-pub const SPLIT_SCROLL: usize = 28;
+pub const SPLIT_SCROLL: usize = 36;
 /// $5202.
-pub const SPLIT_BANK: usize = 29;
-
-// The scanline detector's bytes.
-pub const MATCH_COUNT: usize = 30;
-pub const IDLE_COUNT: usize = 31;
-/// $5203.
-pub const IRQ_LINE: usize = 32;
+pub const SPLIT_BANK: usize = 37;
 
 /// `chr_hi` / 256.
-pub const CHR_HI: usize = 33;
-pub const TILE_ADDRESS: usize = 34;
-pub const PREVIOUS_ADDRESS: usize = 35;
-pub const LINE_COUNTER: usize = 36;
-pub const TILE_CACHE: usize = 37;
+pub const CHR_HI: usize = 38;
 
 // Lengths as load took them.
 /// PRG-ROM in banks of 8 KiB, less one.
-pub const PRG_BANKS_LESS_ONE: usize = 38;
+pub const PRG_BANKS_LESS_ONE: usize = 39;
 /// CHR in KiB.
-pub const CHR_KIB: usize = 39;
+pub const CHR_KIB: usize = 40;
 /// PRG-RAM in KiB.
-pub const RAM_KIB: usize = 40;
-
-pub const TILE_COUNT: usize = 41;
+pub const RAM_KIB: usize = 41;
 
 /// $5113 to $5117, five words.
 pub const PRG_BANKS: usize = 42;

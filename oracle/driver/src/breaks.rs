@@ -15,13 +15,14 @@ use oracle::{
 /// The most that each of the first 64 words may be.
 #[rustfmt::skip]
 const LIMITS: [u16; 64] = [
-    1, 1, 1, 1, 1, 1, 1, 1, 1, 1, 1, 1, 1, 1, 1,
+    1, 65_535, 255, 1, 2, 1, 65_279, 1, 1, 255,
+    1, 959, 83, 1_023, 1, 1,
+    1, 1, 1, 1, 1, 1, 1,
     4,
     3, 3, 3, 3, 3, 255, 255, 3, 255, 255,
     255, 31, 255, 255,
-    255, 2, 255,
-    3, 959, 65_535, 65_279, 1_023,
-    127, 1_024, 64, 83,
+    3,
+    127, 1_024, 64,
     255, 255, 255, 255, 255,
     255, 255, 255, 255, 255, 255, 255, 255, 255, 255, 255, 255, 255, 255, 255, 255,
     0,
@@ -29,6 +30,12 @@ const LIMITS: [u16; 64] = [
 
 /// What a broken state must give: its name, the refusal of calls over memory, and that of the others (0: either way).
 type Broken = (&'static str, u8, u8);
+
+/// A word before the bank registers that has this limit.
+fn with_limit(random: &mut Random, limit: u16) -> usize {
+    let places: Vec<usize> = (0..words::PRG_BANKS).filter(|&place| LIMITS[place] == limit).collect();
+    random.pick(&places)
+}
 
 /// Puts a number above its limit into a word: the least, the greatest, one whose low byte is within the limit, or any.
 fn above(random: &mut Random, s: &mut State, place: usize) {
@@ -61,7 +68,7 @@ fn broken(random: &mut Random, s: &mut State) -> Broken {
     let chr_page = words::CHR_PAGES + random.below(16);
     match random.below(24) {
         0 => {
-            let flag = random.below(15);
+            let flag = with_limit(random, 1);
             above(random, s, flag);
             ("flag", 5, 5)
         }
@@ -153,8 +160,7 @@ fn broken(random: &mut Random, s: &mut State) -> Broken {
             ("bank register", 5, 5)
         }
         _ => {
-            let bytes: Vec<usize> = (words::NAMETABLES..words::CHR_HI).filter(|&place| LIMITS[place] == 255).collect();
-            let byte = random.pick(&bytes);
+            let byte = with_limit(random, 255);
             above(random, s, byte);
             ("byte", 5, 5)
         }

@@ -1,4 +1,4 @@
--- The loop gathers the excesses of the words so far.
+-- The first sixteen by their own function; the loop gathers the excesses of the others.
 use Prim.Native.Nat.{_-_, _≤_}
 use native.Mathlib.Omega.{arith}
 use Rattle.host_state.specs.Words.{limits}
@@ -8,23 +8,23 @@ use Rattle.host_state.proofs.limits.within_limits.Statement.{statement}
 use Rattle.host_state.proofs.limits.within_limits.Tie as tie
 
 abbrev Inv-loop : tie.InvT-loop
-Inv-loop words table above₀ i₀ above i = (Gathered limits words above i) × (i ≤ 64)
+Inv-loop words first table above₀ i₀ above i = (Gathered words first above i) × (i ≤ 48)
 
 abbrev μ-loop : tie.MeasureT-loop
-μ-loop words table above₀ i₀ above i = 64 - i
+μ-loop words first table above₀ i₀ above i = 48 - i
 
 loop-holds : tie.Need-loop-holds Inv-loop μ-loop
-loop-holds c = (gather-first limits _, omega arith)
+loop-holds c = (gather-first _ _ (c .moving-within .ensures), omega arith)
 
 loop-again : tie.Need-loop-again Inv-loop μ-loop
 unfolding limits
 loop-again c = (
-  gather-next limits _ _ _ _ (c .before .before .before .loop .inv .0) (c .before .before .loop-test .taken) (c .excess .ensures),
+  gather-next _ _ _ _ _ (c .before .before .before .loop .inv .0) (c .before .before .loop-test .taken) (c .excess .ensures),
   omega (arith, c .before .before .loop-test .taken),
 )
 
 returns : tie.Need-returns Inv-loop μ-loop
-returns c = gather-last _ _ _ (c .before .loop .inv .0) (c .before .loop .inv .1) (c .loop-test .left)
+returns c = gather-last _ _ _ _ (c .before .loop .inv .0) (c .before .loop .inv .1) (c .loop-test .left)
 
 pub within-limits-spec : {M : Type 1} → statement M
-within-limits-spec = tie.close (tie.spec Inv-loop μ-loop loop-holds (λ c. search needs) (λ c. search needs) (λ c. search needs) (λ c. search needs) (λ c κs. search needs) (λ c. search needs) (λ c. search needs) loop-again returns)
+within-limits-spec = tie.close (tie.spec Inv-loop μ-loop (λ c κs. search needs) loop-holds (λ c. search needs) (λ c. search needs) (λ c. search needs) (λ c. search needs) (λ c. search needs) (λ c κs. search needs) (λ c. search needs) (λ c. search needs) loop-again returns)
