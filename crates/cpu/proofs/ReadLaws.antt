@@ -1,12 +1,13 @@
 -- A CPU read answers a register's value or the page. And it is what it was: a test for each register in turn, and the page behind them.
 use Prim.Native.Nat.{ℕ, _-_, _*_, _/_, _%_}
-use mathlib.Core.Bool.{Bool, true, false}
+use mathlib.Core.Bool.{Bool, true, false, _||_}
 use mathlib.Core.List.{List}
 use mathlib.Core.Option.{Option, none, some}
 use mathlib.Core.Path.{_≡_, refl}
 use lib.Dec.{eqb}
 use lib.ListN.{getD}
 use Rattle.memory.specs.Tests.{pick}
+use Rattle.memory.proofs.Tests.{split}
 use Rattle.answers.specs.declared.Answer.{Answer}
 use Rattle.answers.specs.declared.Answer.the-variants.{Register}
 use Rattle.registers.specs.declared.Regs.{Regs}
@@ -14,7 +15,7 @@ use Rattle.scanline.specs.declared.Detector.{Detector}
 use Rattle.scanline.specs.Steps.{statusOf}
 use Rattle.split.specs.declared.VSplit.{VSplit}
 use Rattle.cpu.specs.Groups.{within}
-use Rattle.cpu.specs.Reads.{orElse, registerAt, registerRead}
+use Rattle.cpu.specs.Reads.{orElse, registerAt, registerRead, irqRead}
 
 -- What holds of any register's value and of the page holds of the read.
 pub or-keeps : (P : Answer → Type 0) (o : Option ℕ) (page : Answer) → ((v : ℕ) → P (Register v)) → P page → P (orElse o page)
@@ -63,3 +64,23 @@ read-is g v d prg chr a page =
     (asked page (eqb a 0x5205) _ _ _
     (asked page (eqb a 0x5206) _ _ _
     refl)))))))))))))))
+
+-- Of a detector the three fields that a read can change; a read changes no other.
+abbrev pub readFields : Detector → Detector → Detector
+readFields d e =
+    record {
+      «prev_some» = e .«prev_some»;
+      «prev_addr» = d .«prev_addr»;
+      «match_count» = d .«match_count»;
+      reading = d .reading;
+      «idle_count» = d .«idle_count»;
+      «in_frame» = e .«in_frame»;
+      scanline = d .scanline;
+      pending = e .pending;
+      «irq_enabled» = d .«irq_enabled»;
+      «irq_scanline» = d .«irq_scanline»;
+    }
+
+pub read-changes : (d : Detector) (a : ℕ) → irqRead d a ≡ readFields d (irqRead d a)
+unfolding irqRead
+read-changes d a = split (eqb a 0x5204) (λ t. rw t) (λ f. rw f (split (eqb a 0xFFFA || eqb a 0xFFFB) (λ t. rw t) (λ f. rw f)))

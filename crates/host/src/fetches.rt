@@ -63,13 +63,13 @@ pub extern "C" fn mmc5_ppu_fetch(
     }
     let at = PpuAddr(addr);
     let irq = read::detector_of(words);
-    if scanline::counter_refused(irq, at) {
-        return host_answers::plain(Answer::Refused(Refusal::Counter));
-    }
     let ppu = read::status_of(words);
     let regs = read::regs_of(words);
     let vsplit = read::split_of(words);
     if scanline::tiles::counted(at) {
+        if scanline::counter_refused(irq, at) {
+            return host_answers::plain(Answer::Refused(Refusal::Counter));
+        }
         let counted = ppu_side::count_fetch(regs, irq, ppu, vsplit, at);
         let irq_after = counted.irq;
         let ppu_after = counted.ppu;

@@ -37,56 +37,57 @@ pub fn word_of(src: Src, index: u32, writable: bool) -> PageWord
     }
 }
 
+// CHR and CIRAM, which most fetches show, are asked first.
 pub fn page_of(word: PageWord) -> Page
     ensures { λ r. ⌜ r ≡ pageOf word ⌝ }
 {
     let n = word.0;
-    if n < 1 {
+    if 2054 < n {
+        if n < 65408 {
+            return Page {
+                src: Src::Chr,
+                index: (n - 2055) as u32,
+                writable: false,
+            };
+        }
         return Page {
-            src: Src::Blank,
-            index: 0,
-            writable: false,
+            src: Src::PrgRam,
+            index: ((65535 - n) / 2) as u32,
+            writable: (65535 - n) % 2 == 1,
         };
     }
-    if n < 3 {
-        return Page {
-            src: Src::ExRam,
-            index: 0,
-            writable: n == 2,
-        };
-    }
-    if n < 1027 {
-        return Page {
-            src: Src::PrgRom,
-            index: (n - 3) as u32,
-            writable: false,
-        };
-    }
-    if n < 2051 {
-        return Page {
-            src: Src::Chr,
-            index: (2050 - n) as u32,
-            writable: true,
-        };
-    }
-    if n < 2055 {
+    if 2050 < n {
         return Page {
             src: Src::CiRam,
             index: ((n - 2051) / 2) as u32,
             writable: (n - 2051) % 2 == 1,
         };
     }
-    if n < 65408 {
+    if 1026 < n {
         return Page {
             src: Src::Chr,
-            index: (n - 2055) as u32,
+            index: (2050 - n) as u32,
+            writable: true,
+        };
+    }
+    if 2 < n {
+        return Page {
+            src: Src::PrgRom,
+            index: (n - 3) as u32,
             writable: false,
         };
     }
+    if 0 < n {
+        return Page {
+            src: Src::ExRam,
+            index: 0,
+            writable: n == 2,
+        };
+    }
     Page {
-        src: Src::PrgRam,
-        index: ((65535 - n) / 2) as u32,
-        writable: (65535 - n) % 2 == 1,
+        src: Src::Blank,
+        index: 0,
+        writable: false,
     }
 }
 

@@ -2,7 +2,7 @@
 use Prim.Native.Nat.{ℕ, _+_}
 use mathlib.Core.Bool.{true, false}
 use mathlib.Core.List.{List}
-use mathlib.Core.Path.{_≡_, refl, ap}
+use mathlib.Core.Path.{_≡_, refl, sym, ap, subst, _∙_}
 use lib.Dec.{ltb}
 use Rattle.memory.specs.declared.CpuAddr.{CpuAddr}
 use Rattle.memory.specs.declared.PpuAddr.{PpuAddr}
@@ -24,6 +24,7 @@ use Rattle.state.specs.declared.State.{State}
 use Rattle.state.specs.With.{withIrq, withRegs, withPpu, withVsplit, withChrPages}
 use Rattle.state.proofs.RangeLaws.{Ranged, ranged}
 use Rattle.cpu.specs.Reads.{audioRead, irqRead, cpuAnswer}
+use Rattle.cpu.proofs.ReadLaws.{readFields, read-changes}
 use Rattle.cpu.specs.Writes.{audioWrite, latched, prgWordAt, registerWritten}
 use Rattle.cpu.specs.PpuRegisters.{statusAfter, detectorAfter}
 use Rattle.ppu.specs.Served.{countedServed, patternServed}
@@ -41,6 +42,7 @@ use Rattle.player.specs.declared.Ending.the-variants.{Stopped}
 use Rattle.logs.specs.Logs.{logged}
 use Rattle.player.specs.Replay.{Left, ended}
 use Rattle.steps.specs.Sides.{chosenAt}
+use Rattle.steps.proofs.Idle.{setFields, chosen-changes}
 use Rattle.board_ppu.proofs.Made
 use Rattle.player.proofs.Steps.{Going, stops, goes}
 
@@ -64,11 +66,16 @@ module _ {trace : List ℕ} {all : Left} {m₀ : Mem} {log₀ : List ℕ} {at co
       pub read-stop : call ≡ CpuRead addr → audioRead (addr .0) ≡ true → ended (Stopped at Audio) s m log ≡ all
       read-stop k t = stops trace all m₀ log₀ at count s m log call next found Audio s m g (rw k (ap (λ o. afterOf o m) (Made.read-refused s m (g .gate) (addr .0) t)))
 
-      pub read-arm : (a : Answer) (d : Detector) → call ≡ CpuRead addr → audioRead (addr .0) ≡ false → a ≡ cpuAnswer s m (addr .0) → d ≡ irqRead (s .irq) (addr .0)
+      read-whole : (a : Answer) (d : Detector) → call ≡ CpuRead addr → audioRead (addr .0) ≡ false → a ≡ cpuAnswer s m (addr .0) → d ≡ irqRead (s .irq) (addr .0)
           → Onward next a (withIrq s d) m
-      read-arm a d k f ea ed =
+      read-whole a d k f ea ed =
           rw ea
           (goes trace all m₀ log₀ at count s m log call next found (cpuAnswer s m (addr .0)) _ m g (rw (k, ed) (ap (λ o. afterOf o m) (Made.read-made s m (g .gate) (addr .0) f))) (answer-is-given s m (addr .0)))
+
+      -- A read, by the fields of the detector that it can change.
+      pub read-arm : (a : Answer) (d : Detector) → call ≡ CpuRead addr → audioRead (addr .0) ≡ false → a ≡ cpuAnswer s m (addr .0) → d ≡ irqRead (s .irq) (addr .0)
+          → Onward next a (withIrq s (readFields (s .irq) d)) m
+      read-arm a d k f ea ed = subst (λ (e : Detector). Onward next a (withIrq s e) m) (ed ∙ read-changes (s .irq) (addr .0) ∙ ap (readFields (s .irq)) (sym ed)) (read-whole a d k f ea ed)
 
       module _ {v : ℕ} where
         pub register-arm : (p : PpuStatus) (d : Detector) → call ≡ PpuRegister addr v → p ≡ statusAfter (s .ppu) (addr .0) v → d ≡ detectorAfter (s .irq) (addr .0) v
@@ -111,7 +118,7 @@ module _ {trace : List ℕ} {all : Left} {m₀ : Mem} {log₀ : List ℕ} {at co
       counted-arm d p w a k f t ed ep ew ea = rw (ea, ew, ep, ed) (fetch-made _ _ k f (Made.fetch-counted s m (g .gate) (addr .0) f t))
 
       -- Any other fetch, by the set that it chooses and the state with the CHR table that the set shows.
-      pub other-arm : (p : PpuStatus) (t : State) (a : Answer)
+      other-whole : (p : PpuStatus) (t : State) (a : Answer)
           → call ≡ PpuFetch addr
           → counterRefused (s .irq) (addr .0) ≡ false
           → countedAt (addr .0) ≡ false
@@ -120,7 +127,22 @@ module _ {trace : List ℕ} {all : Left} {m₀ : Mem} {log₀ : List ℕ} {at co
           → a
           ≡ pick (ltb (addr .0) 0x2000) (patternServed (t .regs) (t .vsplit) (t .irq) p (m .exram) (m .chr) (addr .0) (chrAnswer (t .«chr_pages») m (addr .0))) (chrAnswer (t .«chr_pages») m (addr .0))
           → Onward next a (withPpu t p) m
-      other-arm p t a k f n ep et ea = rw (ea, et, ep) (fetch-made _ _ k f (Made.fetch-other s m (g .gate) (addr .0) f n))
+      other-whole p t a k f n ep et ea = rw (ea, et, ep) (fetch-made _ _ k f (Made.fetch-other s m (g .gate) (addr .0) f n))
+
+      -- The same, by the two fields of the status that it can change.
+      pub other-arm : (p : PpuStatus) (t : State) (a : Answer)
+          → call ≡ PpuFetch addr
+          → counterRefused (s .irq) (addr .0) ≡ false
+          → countedAt (addr .0) ≡ false
+          → p ≡ chosenAt (s .ppu) (s .irq .«in_frame») (addr .0)
+          → t ≡ withChrPages s (patternPages s (p .«bg_set»))
+          → a
+          ≡ pick (ltb (addr .0) 0x2000) (patternServed (t .regs) (t .vsplit) (t .irq) p (m .exram) (m .chr) (addr .0) (chrAnswer (t .«chr_pages») m (addr .0))) (chrAnswer (t .«chr_pages») m (addr .0))
+          → Onward next a (withPpu t (setFields (t .ppu) p)) m
+      other-arm p t a k f n ep et ea =
+          let kept : t .ppu ≡ s .ppu = ap (λ (x : State). x .ppu) et in
+          let same : p ≡ setFields (t .ppu) p = ep ∙ chosen-changes (s .ppu) (s .irq .«in_frame») (addr .0) ∙ ap (setFields (s .ppu)) (sym ep) ∙ ap (λ (q : PpuStatus). setFields q p) (sym kept) in
+          subst (λ (q : PpuStatus). Onward next a (withPpu t q) m) same (other-whole p t a k f n ep et ea)
 
       pub ppu-write-arm : {v : ℕ} (n : Mem) → call ≡ PpuWrite addr v → n ≡ pageStored m (pageOf (chrWordAt (s .«chr_pages») (addr .0))) (addr .0) v → Onward next Nothing s n
       ppu-write-arm {v} n k en = goes trace all m₀ log₀ at count s m log call next found Nothing s n g (rw (k, en) (Made.ppu-write-made s m (g .gate) (addr .0) v)) refl

@@ -1,5 +1,6 @@
 // The records of a trace, played over a state in range and buffers of its lengths. The loop holds the state; each arm works on the groups that
-// its call touches, puts them back and goes on: no call is handed the whole state.
+// its call touches, puts them back and goes on: no call is handed the whole state. A read and a fetch that does not count write the fields that they can
+// change: a group written whole is read in wider pieces than a clock or a fetch wrote its fields in, which a processor waits for (docs/SPEED.md).
 ghost use mathlib.Core.Path.{_≡_};
 ghost use Prim.Native.Nat.{_≤_};
 ghost use lib.ListN.{length};
@@ -76,8 +77,13 @@ pub fn play(
                         addr,
                     );
                     let irq = cpu::reads::irq_read(t.irq, addr);
-                    t.irq = irq;
-                    logs::log_record(log, count, answer, irq);
+                    let prev_some = irq.prev_some;
+                    let in_frame = irq.in_frame;
+                    let pending = irq.pending;
+                    t.irq.prev_some = prev_some;
+                    t.irq.in_frame = in_frame;
+                    t.irq.pending = pending;
+                    logs::log_record(log, count, answer, t.irq);
                     count += 1;
                     at = next;
                     continue;
@@ -155,11 +161,11 @@ pub fn play(
                     continue;
                 }
                 Call::PpuFetch(addr) => {
-                    if scanline::counter_refused(t.irq, addr) {
-                        break Ending::Stopped(at, Refusal::Counter);
-                    }
                     let k = (addr.0 / 1024 % 16) as usize;
                     if scanline::tiles::counted(addr) {
+                        if scanline::counter_refused(t.irq, addr) {
+                            break Ending::Stopped(at, Refusal::Counter);
+                        }
                         let groups = ppu_side::count_fetch(t.regs, t.irq, t.ppu, t.vsplit, addr);
                         let irq = groups.irq;
                         let ppu = groups.ppu;
@@ -200,7 +206,10 @@ pub fn play(
                         );
                         t.chr_pages = pages;
                     }
-                    t.ppu = ppu;
+                    let bg_set = ppu.bg_set;
+                    let bg_written = ppu.bg_written;
+                    t.ppu.bg_set = bg_set;
+                    t.ppu.bg_written = bg_written;
                     let word = t.chr_pages[k];
                     let answer = ppu_side::other_answer(
                         t.regs,

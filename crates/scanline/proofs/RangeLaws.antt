@@ -75,3 +75,8 @@ ranges-kept = record {
   idle-fits = idle-ok;
   line-fits = λ d r. omega (arith, line-ok d r);
 }
+
+-- A fetch that does not count is not refused for the line counter.
+pub uncounted : (d : Detector) (a : ℕ) → countedAt a ≡ false → counterRefused d a ≡ false
+unfolding counterRefused
+uncounted d a n = rw n

@@ -23,11 +23,11 @@ use Rattle.banks.specs.Placed.{placed}
 use Rattle.banks.specs.Prg.{prgMapped}
 use Rattle.state.specs.declared.PpuStatus.{PpuStatus}
 use Rattle.state.specs.declared.State.{State}
-use Rattle.cpu.specs.Chosen.{ppuAfter}
+use Rattle.cpu.specs.Chosen.{chosen, ppuAfter}
 use Rattle.cpu.specs.Groups.{within, splitAfter, irqAfter, prgBanksAfter, chrBanksAfter}
 use Rattle.cpu.specs.Reads.{registerAt, registerRead}
 use Rattle.cpu.specs.Writes.{mapsPrg, prgPagesAfter, chrPagesAfter, registerWritten, prgWordAt}
-use Rattle.steps.specs.Sides.{exramWord}
+use Rattle.steps.specs.Sides.{exramWord, chosenAt}
 
 -- An address apart from a range is apart from what lies in it.
 pub apart-eqb : (lo hi n a : ℕ) → within lo hi n ≡ true → within lo hi a ≡ false → eqb a n ≡ false
@@ -249,3 +249,12 @@ word-kept s a v =
     (pick-keeps (λ (l : List PageWord). getD l 20 (word 0) ≡ getD (s .«prg_pages») 20 (word 0)) (mapsPrg a) (placed-below (s .«prg_pages») 24 _ 40 20 (word 0) (omega arith))
     (pick-keeps (λ (l : List PageWord). getD l 20 (word 0) ≡ getD (s .«prg_pages») 20 (word 0)) (eqb a 0x5104) (getD-set-other (s .«prg_pages») 23 20 _ (word 0) (λ e. absurd (omega (arith, e)))) refl)))
     (λ f. ap (λ (q : State). prgWordAt (q .«prg_pages») a) (write-idle a f s v))
+
+-- Of a status the two fields that a fetch which does not count can change; it changes no other.
+abbrev pub setFields : PpuStatus → PpuStatus → PpuStatus
+setFields p q =
+    record { «tile_number» = p .«tile_number»; «tile_cache» = p .«tile_cache»; sprite8x16 = p .sprite8x16; rendering = p .rendering; «bg_set» = q .«bg_set»; «bg_written» = q .«bg_written» }
+
+pub chosen-changes : (p : PpuStatus) (framed : Bool) (a : ℕ) → chosenAt p framed a ≡ setFields p (chosenAt p framed a)
+unfolding chosenAt chosen
+chosen-changes p framed a = split (ltb a 0x2000) (λ t. rw t) (λ f. rw f)

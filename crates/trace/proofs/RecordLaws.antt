@@ -47,8 +47,8 @@ has-value k a h =
     by-kind (λ (k : ℕ). HasValue k → taking (formOf k) a ≡ value (taking (taking (formOf k) a)))
     (λ h. absurd (omega arith)) (λ h. absurd (omega arith)) (λ h. refl) (λ h. refl) (λ h. absurd (h .no-fetch refl)) (λ h. absurd (h .no-reset refl)) (λ h. refl) k (h .known) h
 
-pub value-too : (k : ℕ) → HasAddress k → (k ≡ 1 → ⊥) → (k ≡ 4 → ⊥) → HasValue k
-value-too k h n m = record { no-read = omega arith; known = h .known; no-fetch = m; no-reset = h .no-reset }
+pub address-too : (k : ℕ) → HasValue k → HasAddress k
+address-too k h = record { no-clock = omega (arith, h .no-read); known = h .known; no-reset = h .no-reset }
 
 pub has-none : (k : ℕ) → 6 < k → formOf k ≡ unknown
 has-none k h = List·getD-eq-default forms unknown {n = k} (omega arith)

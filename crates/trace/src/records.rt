@@ -1,6 +1,6 @@
-// The record at a place of a trace. Each number is read at one place of the code, so that a loop over records has all of it inline.
+// The record at a place of a trace.
 ghost use mathlib.Core.Path.{_≡_};
-ghost use Rattle.trace.specs.Records.{HasAddress, HasValue, whole, formOf, taking, filled, recordAt};
+ghost use Rattle.trace.specs.Records.{HasValue, whole, formOf, taking, filled, recordAt};
 use crate::Call;
 use crate::Found;
 use crate::Numeral;
@@ -21,17 +21,11 @@ fn call_over(kind: u8, address: u16, value: u8) -> Call
     }
 }
 
-// The rest of a record, from where its address ends.
+// The rest of a record that has a value, from where its address ends.
 fn over_address(trace: &[u8], at: usize, kind: u8, address: u16) -> Found
-    requires { ⌜ HasAddress kind ⌝ }
+    requires { ⌜ HasValue kind ⌝ }
     ensures { λ r. ⌜ r ≡ filled (now (trace .entry)) at (taking (formOf kind) address) ⌝ }
 {
-    if kind == 1 {
-        return Found::Record(Call::CpuRead(CpuAddr(address)), at);
-    }
-    if kind == 4 {
-        return Found::Record(Call::PpuFetch(PpuAddr(address)), at);
-    }
     match numbers::value_at(trace, at) {
         Numeral::Sound(value, next) => Found::Record(call_over(kind, address, value as u8), next),
         Numeral::Cut => Found::Refused(Refusal::Number),
@@ -40,9 +34,9 @@ fn over_address(trace: &[u8], at: usize, kind: u8, address: u16) -> Found
     }
 }
 
-// The rest of a record that has an address, from where the address begins.
+// The rest of a record that has an address and a value, from where the address begins.
 fn addressed_at(trace: &[u8], at: usize, kind: u8) -> Found
-    requires { ⌜ HasAddress kind ⌝ }
+    requires { ⌜ HasValue kind ⌝ }
     ensures { λ r. ⌜ r ≡ filled (now (trace .entry)) at (formOf kind) ⌝ }
 {
     match numbers::address_at(trace, at) {
@@ -53,7 +47,36 @@ fn addressed_at(trace: &[u8], at: usize, kind: u8) -> Found
     }
 }
 
-// What stands at a place of a trace. The refused record's place is `at`, the offset of its kind byte.
+// The rest of a CPU read, and of a PPU fetch.
+fn read_at(trace: &[u8], at: usize) -> Found
+    ensures { λ r. ⌜ r ≡ filled (now (trace .entry)) at (formOf 1) ⌝ }
+{
+    match numbers::address_at(trace, at) {
+        Numeral::Sound(address, next) => Found::Record(
+            Call::CpuRead(CpuAddr(address as u16)),
+            next,
+        ),
+        Numeral::Cut => Found::Refused(Refusal::Number),
+        Numeral::Padded => Found::Refused(Refusal::Number),
+        Numeral::Above => Found::Refused(Refusal::Number),
+    }
+}
+
+fn fetch_at(trace: &[u8], at: usize) -> Found
+    ensures { λ r. ⌜ r ≡ filled (now (trace .entry)) at (formOf 4) ⌝ }
+{
+    match numbers::address_at(trace, at) {
+        Numeral::Sound(address, next) => Found::Record(
+            Call::PpuFetch(PpuAddr(address as u16)),
+            next,
+        ),
+        Numeral::Cut => Found::Refused(Refusal::Number),
+        Numeral::Padded => Found::Refused(Refusal::Number),
+        Numeral::Above => Found::Refused(Refusal::Number),
+    }
+}
+
+// What stands at a place of a trace, the kinds that traces have most asked first. The refused record's place is `at`, the offset of its kind byte.
 pub fn record_at(trace: &[u8], at: usize) -> Found
     ensures { λ r. ⌜ r ≡ recordAt (now (trace .entry)) at ⌝ }
 {
@@ -61,8 +84,14 @@ pub fn record_at(trace: &[u8], at: usize) -> Found
         return Found::End;
     }
     let kind = trace[at];
+    if kind == 4 {
+        return fetch_at(trace, at + 1);
+    }
     if kind == 0 {
         return Found::Record(Call::Clock, at + 1);
+    }
+    if kind == 1 {
+        return read_at(trace, at + 1);
     }
     if kind == 5 {
         return Found::Record(Call::Reset, at + 1);

@@ -9,7 +9,7 @@ use borrow.Author.Tests.{not-true}
 use lib.ListN.{length}
 use Rattle.memory.specs.Bytes.{Mem, memOf}
 use Rattle.memory.proofs.ByteLaws.{stored-low}
-use Rattle.scanline.proofs.RangeLaws.{ranges-kept}
+use Rattle.scanline.proofs.RangeLaws.{ranges-kept, uncounted}
 use Rattle.state.specs.With.{withChrPages}
 use Rattle.state.proofs.SizeLaws.{lengths-say}
 use Rattle.cpu.specs.Reads.{cpuAnswer}
@@ -62,8 +62,8 @@ loop-again c =
     clock-arm (going r) (stands r) (d .clock .result) (d .before .before .enum-told2 .given .1) (d .clock .ensures) (w .last .0) (w .ensures)
 
 -- A CPU read; past the test for the audio registers.
-abbrev read-tested : tie.After-log-record-arg2 Inv-loop μ-loop → tie.Else1 Inv-loop μ-loop
-read-tested c = c .before .before .before .before .before .before .before .before .before .before .before .before .before .before .before
+abbrev read-tested : tie.After-log-record-arg3 Inv-loop μ-loop → tie.Else1 Inv-loop μ-loop
+read-tested c = c .before .before .before .before .before .before .before .before .before .before .before .before .before .before .before .before .before .before .before
 
 abbrev read-found : tie.After-slice-known7 Inv-loop μ-loop → Found
 read-found c = read-tested (c .before .before .before) .before .before .before .before .before
@@ -71,7 +71,7 @@ read-found c = read-tested (c .before .before .before) .before .before .before .
 loop-again-2 : tie.Need-loop-again-2 Inv-loop μ-loop
 unfolding cpuAnswer
 loop-again-2 c =
-    let d = c .before .before .before .before in let a = d .before .before .read in let w = c .before .before .log-record2 in
+    let d = c .before .before .before .before .before .before .before .before in let a = d .before .before .read in let w = c .before .before .log-record2 in
     let e = read-tested (c .before .before .before) in let r = read-found c in
     read-arm (going r) (stands r) (a .result) (d .irq-read .result) (e .before .before .before .call .given .1) (sym (e .before .audio-read .ensures) ∙ e .if1 .left)
     (a .ensures) (d .irq-read .ensures) (w .last .0) (w .ensures)
@@ -133,7 +133,7 @@ loop-again-4 c =
     (write-prg s (k .0 .0 .0) (k .0 .1 .0) _ _ _ (sym (g .maps-prg .ensures) ∙ p .before .before .if4 .taken) (regs .ensures) (banks .ensures) (pages .ensures))
     (d .store .ensures _) (w .last .0) (w .ensures)
 
-abbrev rest-mapped : tie.After-log-record-arg7 Inv-loop μ-loop → tie.After-maps-prg Inv-loop μ-loop
+abbrev rest-mapped : tie.After-log-record-arg8 Inv-loop μ-loop → tie.After-maps-prg Inv-loop μ-loop
 rest-mapped c = c .before .before .before .before .before .before .before .before .before .before .before .before .before .before .before .before
 
 abbrev rest-found : tie.After-slice-known14 Inv-loop μ-loop → Found
@@ -163,41 +163,41 @@ loop-again-6 c =
     register-arm (going r) (stands r) (p .status-after .result) (d .detector-after .result) (p .before .before .before .call3 .given .1)
     (p .status-after .ensures) (d .detector-after .ensures) (w .last .0) (w .ensures)
 
--- A PPU fetch: past the test for the line counter, and a counted one.
-abbrev fetch-found : tie.Else5 Inv-loop μ-loop → Found
-fetch-found c = c .before .before .before .before .before .before
+-- A PPU fetch: one that counts, and past the test for the line counter.
+abbrev fetch-found : tie.After-counted Inv-loop μ-loop → Found
+fetch-found c = c .before .before .before .before .before
 
 returns-5 : tie.Need-returns-5 Inv-loop μ-loop
 returns-5 c =
-    let e = c .before in let r = c .before .before .before .before .before .before in
-    fetch-stop (going r) (stands r) (e .before .before .before .call4 .given .1) (sym (e .counter-refused .ensures) ∙ c .if5 .taken)
+    let e = c .before in let k = e .before .before .before in let r = fetch-found k in
+    fetch-stop (going r) (stands r) (k .before .before .before .call4 .given .1) (sym (e .counter-refused .ensures) ∙ c .if6 .taken)
 
 count-fetch-requires : tie.Need-count-fetch-requires Inv-loop μ-loop
 count-fetch-requires c κs =
-    let e = c .before .before .before .before .before .before .before in let k = going-ranged (going (fetch-found e)) in (k .detector, k .tiles)
+    let k = going-ranged (going (fetch-found (c .before .before .before .before .before .before .before .before))) in (k .detector, k .tiles)
 
-abbrev counted : tie.After-log-record-arg9 Inv-loop μ-loop → tie.Then6 Inv-loop μ-loop
-counted c = c .before .before .before .before .before .before .before .before .before .before .before .before .before .before .before .before
+abbrev in-limit : tie.After-log-record-arg10 Inv-loop μ-loop → tie.Else6 Inv-loop μ-loop
+in-limit c = c .before .before .before .before .before .before .before .before .before .before .before .before .before .before .before .before
 
 abbrev counted-found : tie.After-slice-known16 Inv-loop μ-loop → Found
-counted-found c = fetch-found (counted (c .before .before .before) .before .before .before)
+counted-found c = fetch-found (in-limit (c .before .before .before) .before .before .before .before)
 
 loop-again-7 : tie.Need-loop-again-7 Inv-loop μ-loop
 unfolding chrAnswer
 loop-again-7 c =
     let w = c .before .before .log-record7 in let a = c .before .before .before .before .counted-answer in
     let n = c .before .before .before .before .before .before .before .before .before .before .before .before .before .before .count-fetch in
-    let t = counted (c .before .before .before) in let e = t .before .before .before in let r = fetch-found e in
-    counted-arm (going r) (stands r) (n .result .irq) (n .result .ppu) (n .result .vsplit) (a .result) (e .before .before .before .before .call4 .given .1)
-    (sym (e .before .counter-refused .ensures) ∙ e .if5 .left) (sym (t .before .counted .ensures) ∙ t .if6 .taken)
+    let e = in-limit (c .before .before .before) in let t = e .before .before .before in let k = t .before in let r = fetch-found k in
+    counted-arm (going r) (stands r) (n .result .irq) (n .result .ppu) (n .result .vsplit) (a .result) (k .before .before .before .call4 .given .1)
+    (sym (e .before .counter-refused .ensures) ∙ e .if6 .left) (sym (k .counted .ensures) ∙ t .if5 .taken)
     (n .ensures .0) (n .ensures .1 .0) (n .ensures .1 .1) (a .ensures) (w .last .0) (w .ensures)
 
 -- Any other fetch; past it the CHR table is the chosen set's.
-abbrev set-shown : tie.After-log-record-arg11 Inv-loop μ-loop → tie.Joined7 Inv-loop μ-loop
-set-shown c = c .before .before .before .before .before .before .before .before .before .before .before
+abbrev set-shown : tie.After-log-record-arg12 Inv-loop μ-loop → tie.Joined7 Inv-loop μ-loop
+set-shown c = c .before .before .before .before .before .before .before .before .before .before .before .before .before
 
 abbrev other-found : tie.Joined7 Inv-loop μ-loop → Found
-other-found j = fetch-found (j .before .before .before .before .before .before .before)
+other-found j = fetch-found (j .before .before .before .before .before)
 
 shown : (j : tie.Joined7 Inv-loop μ-loop) →
     let s = head (other-found j) .loop .t in j .if7 .t ≡ withChrPages s (patternPages s (j .before .before .chosen-at .result .«bg_set»))
@@ -213,10 +213,9 @@ unfolding chrAnswer
 loop-again-8 c =
     let w = c .before .before .log-record8 in let a = c .before .before .before .before .before .other-answer in
     let j = set-shown (c .before .before .before) in let p = j .before .before .chosen-at in
-    let t = j .before .before .before .before in let e = t .before .before .before in let r = other-found j in
-    other-arm (going r) (stands r) (p .result) (j .if7 .t) (a .result) (e .before .before .before .before .call4 .given .1)
-    (sym (e .before .counter-refused .ensures) ∙ e .if5 .left) (sym (t .before .counted .ensures) ∙ t .if6 .left)
-    (p .ensures) (shown j) (a .ensures) (w .last .0) (w .ensures)
+    let t = j .before .before .before .before in let k = t .before in let r = other-found j in let n = sym (k .counted .ensures) ∙ t .if5 .left in
+    other-arm (going r) (stands r) (p .result) (j .if7 .t) (a .result) (k .before .before .before .call4 .given .1)
+    (uncounted _ _ n) n (p .ensures) (shown j) (a .ensures) (w .last .0) (w .ensures)
 
 -- A reset.
 loop-again-9 : tie.Need-loop-again-9 Inv-loop μ-loop
@@ -225,7 +224,7 @@ loop-again-9 c =
     reset-arm (going r) (stands r) (g .result) (c .before .before .before .before .before .before .before .enum-told3 .given .1) (g .ensures) (w .last .0) (w .ensures)
 
 -- A PPU write.
-abbrev poked : tie.After-log-record-arg15 Inv-loop μ-loop → tie.After-store2 Inv-loop μ-loop
+abbrev poked : tie.After-log-record-arg16 Inv-loop μ-loop → tie.After-store2 Inv-loop μ-loop
 poked c = c .before .before .before .before .before .before .before .before .before .before
 
 abbrev poke-found : tie.After-slice-known23 Inv-loop μ-loop → Found
@@ -268,8 +267,8 @@ play-spec =
     (λ c. search needs) (λ c κs. search needs) (λ c κs. search needs) (λ c κs. few (going (c .before .before .before .before .before .before .before .before)))
     (λ c. one-more (going (c .before .before .before .before .before .before .before .before .before .before .before)))
     (λ c. nearer _ _ _ _ (stands (c .before .before .before .before .before .before .before .before .before .before .before))) loop-again-6
-    (λ c. search needs) (λ c κs. search needs) (λ c. search needs) (λ c κs. search needs) count-fetch-requires (λ c. search needs) (λ c. search needs)
-    (λ c κs. search needs) (λ c κs. few (going (fetch-found (counted c .before .before .before)))) (λ c. one-more (going (counted-found c)))
+    (λ c. search needs) (λ c. search needs) (λ c κs. search needs) (λ c κs. search needs) count-fetch-requires (λ c. search needs) (λ c. search needs)
+    (λ c κs. search needs) (λ c κs. few (going (fetch-found (in-limit c .before .before .before .before)))) (λ c. one-more (going (counted-found c)))
     (λ c. nearer _ _ _ _ (stands (counted-found c))) loop-again-7
     (λ c κs. search needs) (λ c κs. search needs) (λ c κs. search needs) (λ c. search needs) (λ c. search needs) (λ c κs. search needs)
     (λ c κs. few (going (other-found (set-shown c)))) (λ c. one-more (going (other-found (set-shown (c .before .before .before)))))
@@ -292,8 +291,8 @@ play-spec =
     (λ c. head (c .before .before .before .before .before) .loop .inv .sizes .chr) (λ c. head (c .before .before .before .before .before) .loop .inv .sizes .ram)
     (λ c. head (c .before .before .before .before .before) .loop .inv .sizes .ciram) (λ c. head (c .before .before .before .before .before) .loop .inv .sizes .exram)
     (λ c. head (c .before .before .before .before .before) .loop .inv .log-size) returns-4
-    (λ c. head (c .before .before .before .before .before .before) .loop .inv .sizes .chr)
-    (λ c. head (c .before .before .before .before .before .before) .loop .inv .sizes .ram)
-    (λ c. head (c .before .before .before .before .before .before) .loop .inv .sizes .ciram)
-    (λ c. head (c .before .before .before .before .before .before) .loop .inv .sizes .exram)
-    (λ c. head (c .before .before .before .before .before .before) .loop .inv .log-size) returns-5)
+    (λ c. head (c .before .before .before .before .before .before .before .before .before) .loop .inv .sizes .chr)
+    (λ c. head (c .before .before .before .before .before .before .before .before .before) .loop .inv .sizes .ram)
+    (λ c. head (c .before .before .before .before .before .before .before .before .before) .loop .inv .sizes .ciram)
+    (λ c. head (c .before .before .before .before .before .before .before .before .before) .loop .inv .sizes .exram)
+    (λ c. head (c .before .before .before .before .before .before .before .before .before) .loop .inv .log-size) returns-5)
