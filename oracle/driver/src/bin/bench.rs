@@ -1,4 +1,5 @@
-//! bench [PASSES]: the Rust and the port on the same traces in one process. Its last line is `ratio: replay R, call C`.
+//! bench [PASSES]: the Rust and the port on the same traces in one process. Its last line is `ratio: replay R, call C`. The row `gate + Rust` is no call of
+//! the port: the Rust's own call behind our test of the state, which document 01 asks of every call.
 //!
 //! The Rust is called without any test of ours: the register, then the page. The port is called through the host boundary, where each
 //! single call checks the lent lengths and the whole state. Of replay, the Rust reads the trace record by record and logs nothing; the port is
@@ -75,6 +76,30 @@ fn calls(mix: &Mix, records: &[Record], passes: usize) -> (f64, f64) {
     (median(&mut theirs), median(&mut ours))
 }
 
+/// Median ns a call over the records: the Rust alone, and the Rust with our test of the whole state before each call. No call of the port that tests
+/// the state so can be faster than about that.
+fn behind_the_gate(mix: &Mix, passes: usize) -> (f64, f64) {
+    let rounds = (200_000 / mix.records.len().max(1)).max(1);
+    let calls = (rounds * mix.records.len()) as f64;
+    let (mut alone, mut behind) = (Vec::new(), Vec::new());
+    for _ in 0..passes {
+        for (gate, times) in [(false, &mut alone), (true, &mut behind)] {
+            let (mut board, state, _) = loaded(mix.cartridge);
+            let start = Instant::now();
+            for _ in 0..rounds {
+                for &record in &mix.records {
+                    if gate {
+                        black_box(state.mirroring().ok());
+                    }
+                    black_box(rust_call(&mut board, black_box(record)));
+                }
+            }
+            times.push(start.elapsed().as_nanos() as f64 / calls);
+        }
+    }
+    (median(&mut alone), median(&mut behind))
+}
+
 /// Median ns a record of the mix's traces, each replayed whole, both boards.
 fn replays(mix: &Mix, passes: usize) -> (f64, f64) {
     let rounds = (400_000 / mix.records.len().max(1)).max(1);
@@ -119,6 +144,7 @@ fn main() {
         worst_replay = worst_replay.max(row(mix.name, "replay", replays(&mix, passes)));
         let all = row(mix.name, "single call", calls(&mix, &mix.records, passes));
         worst_call = worst_call.max(all);
+        row(mix.name, "gate + Rust", behind_the_gate(&mix, passes));
         for (name, kind) in [("clock", 0), ("read", 1), ("write", 2), ("fetch", 4)] {
             let some: Vec<Record> = mix.records.iter().copied().filter(|r| r.kind() == kind).collect();
             if some.len() > 8 {
