@@ -23,15 +23,24 @@ use Rattle.banks.specs.Chr.{chrMapped}
 use Rattle.cpu.specs.Reads.{audioRead, irqRead, cpuAnswer}
 use Rattle.cpu.specs.Writes.{audioWrite, latched, prgWordAt, registerWritten, cpuStored}
 use Rattle.cpu.specs.Chosen.{setChanged}
+use Rattle.ppu.specs.Fetches.{ppuSeen, splitSeen}
 use Rattle.ppu.specs.Served.{countedServed, patternServed}
 use Rattle.board.specs.CpuSide.{cpuRead, cpuWrite}
 use Rattle.board.specs.Outcomes.{outcome, refused, afterOf}
 use Rattle.registers.specs.Registers.{resetRegs}
 use Rattle.board.specs.StateCalls.{ppuRegisterWritten, resetCall, clockCall, ppuRegisterCall}
-use Rattle.board_ppu.specs.Fetch.{countedIrq, countedPpu, countedSplit, countedState, countedCall, patternPages, patternCall, ppuFetch}
+use Rattle.board_ppu.specs.Fetch.{countedCall, patternPages, patternCall, ppuFetch}
+use Rattle.board_ppu.specs.Counted.{countedIrq, countedPpu, countedSplit, countedState}
 use Rattle.board_ppu.specs.Peeks.{chrWordAt, chrAnswer, ppuWrite}
 use Rattle.steps.specs.Sides.{chosenAt}
 use Rattle.steps.proofs.Idle.{word-kept}
+
+-- The five steps of a counted fetch leave the groups as the code leaves them, and answer by these.
+pub counted-by-groups : (s : State) (m : Mem) (a : ℕ)
+    → countedCall s m a
+    ≡ outcome (countedServed (s .regs) (countedSplit s a) (countedIrq s a .«in_frame») (countedPpu s a) (m .exram) a (chrAnswer (s .«chr_pages») m a)) (countedState s a)
+unfolding countedCall ppuSeen splitSeen
+counted-by-groups s m a = refl
 
 -- A set that is kept is no change.
 same-set : (b : Bool) → setChanged b b ≡ false
@@ -75,8 +84,8 @@ module _ (s : State) (m : Mem) (h : gateMem s m ≡ Open) where
     pub fetch-counted : counterRefused (s .irq) a ≡ false → countedAt a ≡ true
         → ppuFetch s m a
         ≡ outcome (countedServed (s .regs) (countedSplit s a) (countedIrq s a .«in_frame») (countedPpu s a) (m .exram) a (chrAnswer (s .«chr_pages») m a)) (countedState s a)
-    unfolding ppuFetch countedCall
-    fetch-counted f t = rw (h, f, t)
+    unfolding ppuFetch
+    fetch-counted f t = rw (h, f, t) (counted-by-groups s m a)
 
     pub fetch-other : counterRefused (s .irq) a ≡ false → countedAt a ≡ false
         → let p = chosenAt (s .ppu) (s .irq .«in_frame») a in

@@ -1,3 +1,4 @@
 pub mod Peeks
 pub mod Fetch
+pub mod Counted
 pub mod Promise

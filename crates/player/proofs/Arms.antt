@@ -29,7 +29,8 @@ use Rattle.cpu.specs.Writes.{audioWrite, latched, prgWordAt, registerWritten}
 use Rattle.cpu.specs.PpuRegisters.{statusAfter, detectorAfter}
 use Rattle.ppu.specs.Served.{countedServed, patternServed}
 use Rattle.board.specs.Outcomes.{outcome, afterOf}
-use Rattle.board_ppu.specs.Fetch.{countedIrq, countedPpu, countedSplit, patternPages, ppuFetch}
+use Rattle.board_ppu.specs.Counted.{countedIrq, countedPpu, countedSplit}
+use Rattle.board_ppu.specs.Fetch.{patternPages, ppuFetch}
 use Rattle.board_ppu.specs.Peeks.{chrWordAt, chrAnswer}
 use Rattle.trace.specs.declared.Call.{Call}
 use Rattle.trace.specs.declared.Call.the-variants.{Clock, CpuRead, CpuWrite, PpuRegister, PpuFetch, Reset, PpuWrite}

@@ -1,24 +1,21 @@
--- What a fetch at $2000-$3EFF leaves. 01, "Fetches, runs, breaks": "Inside one fetch the order is: tile count + 1 for a name fetch to $2FFF; tile
--- cache (in attribute mode, not at an attribute address, tile count outside 32-39: the address's low ten bits); run and line (third and later
--- equals zero the tile count); split; answer."
-use Prim.Native.Nat.{ℕ, _%_}
-use mathlib.Core.Bool.{_&&_, not}
+-- What the code's two functions leave of a fetch at $2000-$3EFF, for the steps of the code. None of the three demands rests on them: what a fetch does is said
+-- step by step in `board_ppu/specs/Fetch.antt`, and that it comes to these is `counted-by-groups` of `board_ppu/proofs/Made.antt`. `SameBoard` of
+-- `theorems_folds` names them among the places that are handed the tile count.
+use Prim.Native.Nat.{ℕ}
+use mathlib.Core.Bool.{_&&_}
 use Rattle.memory.specs.Tests.{pick}
 use Rattle.registers.specs.declared.Regs.{Regs}
-use Rattle.registers.specs.Registers.{attributeUse, nametableUse}
+use Rattle.registers.specs.Registers.{nametableUse}
 use Rattle.scanline.specs.declared.Detector.{Detector}
-use Rattle.scanline.specs.Fetches.{attributeAt, nameAt}
-use Rattle.scanline.specs.Tiles.{spriteFetch, columnOf, isPrefetched, isFirst, raisedBy, leftAfter}
+use Rattle.scanline.specs.Fetches.{nameAt}
+use Rattle.scanline.specs.Tiles.{columnOf, isPrefetched, isFirst, raisedBy, leftAfter}
 use Rattle.split.specs.declared.VSplit.{VSplit}
 use Rattle.split.specs.Control.{splitActive}
 use Rattle.split.specs.Region.{scrollOf, afterName}
 use Rattle.state.specs.declared.PpuStatus.{PpuStatus}
+use Rattle.ppu.specs.Cache.{cacheAfter}
 
--- "tile cache (in attribute mode, not at an attribute address, tile count outside 32-39: the address's low ten bits)"
-unfoldable pub cacheAfter : Regs → ℕ → ℕ → ℕ → ℕ
-cacheAfter g cache raised a = pick (attributeUse g && (not (attributeAt a) && not (spriteFetch raised))) (a % 1024) cache
-
--- "third and later equals zero the tile count": m is the match count that the fetch leaves
+-- The status: the tile count raised, and zeroed by the run; the cache by the count between the two. m is the match count that the fetch leaves.
 unfoldable pub ppuSeen : Regs → ℕ → PpuStatus → ℕ → PpuStatus
 ppuSeen g m p a =
     record {
@@ -30,8 +27,7 @@ ppuSeen g m p a =
       «bg_written» = p .«bg_written»;
     }
 
--- Module 8: "Active when enabled, with nametable use, in frame; the region moves on name fetches to $2FFF only." Detector and tile count are those
--- after the run.
+-- The split. Detector and tile count are those after the run.
 unfoldable pub splitSeen : Regs → VSplit → Detector → ℕ → ℕ → VSplit
 splitSeen g v d tiles a =
     pick (nameAt a && splitActive v (nametableUse g) (d .«in_frame»))

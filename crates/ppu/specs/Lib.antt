@@ -1,2 +1,3 @@
 pub mod Served
+pub mod Cache
 pub mod Fetches

@@ -2,7 +2,8 @@
 ghost use mathlib.Core.Path.{_≡_};
 ghost use mathlib.Core.Bool.{true};
 ghost use Rattle.scanline.specs.Tiles.{tilesOk};
-ghost use Rattle.ppu.specs.Fetches.{cacheAfter, ppuSeen, splitSeen};
+ghost use Rattle.ppu.specs.Cache.{cacheAfter};
+ghost use Rattle.ppu.specs.Fetches.{ppuSeen, splitSeen};
 use memory::PpuAddr;
 use registers::Regs;
 use scanline::Detector;

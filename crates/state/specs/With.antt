@@ -1,4 +1,5 @@
 -- A state, or its PPU status, with one field changed.
+use Prim.Native.Nat.{ℕ}
 use mathlib.Core.Bool.{Bool}
 use mathlib.Core.List.{List}
 use Rattle.memory.specs.declared.PageWord.{PageWord}
@@ -27,6 +28,14 @@ withPpu s v =
 abbrev pub withChrPages : State → List PageWord → State
 withChrPages s v =
     record { lengths = s .lengths; regs = s .regs; vsplit = s .vsplit; irq = s .irq; ppu = s .ppu; screen = s .screen; «prg_banks» = s .«prg_banks»; «chr_banks» = s .«chr_banks»; «prg_pages» = s .«prg_pages»; «chr_pages» = v }
+
+abbrev pub withTileNumber : PpuStatus → ℕ → PpuStatus
+withTileNumber s v =
+    record { «tile_number» = v; «tile_cache» = s .«tile_cache»; sprite8x16 = s .sprite8x16; rendering = s .rendering; «bg_set» = s .«bg_set»; «bg_written» = s .«bg_written» }
+
+abbrev pub withTileCache : PpuStatus → ℕ → PpuStatus
+withTileCache s v =
+    record { «tile_number» = s .«tile_number»; «tile_cache» = v; sprite8x16 = s .sprite8x16; rendering = s .rendering; «bg_set» = s .«bg_set»; «bg_written» = s .«bg_written» }
 
 abbrev pub withSprite8x16 : PpuStatus → Bool → PpuStatus
 withSprite8x16 s v =

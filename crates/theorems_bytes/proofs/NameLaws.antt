@@ -33,7 +33,9 @@ use Rattle.state.specs.declared.State.{State}
 use Rattle.state.specs.declared.gate.Gate.the-variants.{Open}
 use Rattle.state.specs.Gate.{gateMem}
 use Rattle.board.specs.CpuSide.{cpuWrite}
-use Rattle.board_ppu.specs.Fetch.{countedIrq, countedSplit, countedCall, patternCall, ppuFetch}
+use Rattle.board_ppu.specs.Counted.{countedIrq, countedSplit}
+use Rattle.board_ppu.specs.Fetch.{patternCall, ppuFetch}
+use Rattle.board_ppu.proofs.Made.{fetch-counted}
 use Rattle.board_ppu.specs.Peeks.{chrAnswer}
 use Rattle.theorems_promises.proofs.Promised.{gate-stays-open}
 use Rattle.theorems_bytes.specs.Names.{NameBytes, ServedBytes, selectorAt, fillAnswer, selectorByte, Fetched}
@@ -48,23 +50,19 @@ mirrored-low n = let e : n % 4 % 4 ≡ n % 4 = omega arith in rw e
 low-uncounted : (a : ℕ) → a < 0x2000 → countedAt a ≡ false
 low-uncounted a h = rw (lt-leb 0x2000 a h)
 
--- A fetch behind an open gate: at a counted address that the counter does not refuse, and at a pattern address.
-counted : (s : State) (m : Mem) (a : ℕ) → gateMem s m ≡ Open → countedAt a ≡ true → Fetched s a → ppuFetch s m a ≡ countedCall s m a
-unfolding ppuFetch
-counted s m a h c f = rw (h, f, c)
-
+-- A fetch behind an open gate at a pattern address; at a counted address that the counter does not refuse, it is `fetch-counted`.
 patterned : (s : State) (m : Mem) (a : ℕ) → gateMem s m ≡ Open → a < 0x2000 → ppuFetch s m a ≡ patternCall s m a
 unfolding ppuFetch counterRefused
 patterned s m a h l = rw (h, low-uncounted a l, lt-ltb a 0x2000 l)
 
 pub served-bytes : ServedBytes
-unfolding countedCall countedServed splitByte patternCall patternServed direct patternOffset exOffset attributeAddress attributeShift chosen
+unfolding countedServed splitByte patternCall patternServed direct patternOffset exOffset attributeAddress attributeShift chosen
 served-bytes =
     record {
-      split-name = λ s m h a c n f q. let e = counted s m a (h .opened) c f in rw (e, rw e at q, n);
-      split-attribute = λ s m h a c n f q. let e = counted s m a (h .opened) c f in rw (e, rw e at q, n) (ap Served (mirrored-low _));
+      split-name = λ s m h a c n f q. let e = fetch-counted s m (h .opened) a f c in rw (e, rw e at q, n);
+      split-attribute = λ s m h a c n f q. let e = fetch-counted s m (h .opened) a f c in rw (e, rw e at q, n) (ap Served (mirrored-low _));
       split-pattern = λ s m h a l q. rw (patterned s m a (h .opened) l, q);
-      attribute = λ s m h a c n f q u t. let e = counted s m a (h .opened) c f in rw (e, rw e at q, rw e at u, n, rw e at t);
+      attribute = λ s m h a c n f q u t. let e = fetch-counted s m (h .opened) a f c in rw (e, rw e at q, rw e at u, n, rw e at t);
       attribute-pattern = λ s m h a l q u t. rw (patterned s m a (h .opened) l, q, u, t);
     }
 
@@ -131,9 +129,9 @@ fetched : (t : State) (m : Mem) (pages : List PageWord) (v a : ℕ) → gateMem 
     → t .regs .nametables ≡ v → t .«chr_pages» ≡ namesMapped v (nametableUse (t .regs)) pages
     → countedAt a ≡ true → t .vsplit .enabled ≡ false → attributeUse (t .regs) ≡ false → Fetched t a
     → ppuFetch t m a .answer ≡ selectorByte t m (selectorAt v a) a
-unfolding countedCall countedServed
+unfolding countedServed
 fetched t m pages v a h l n p c off plain f =
-    rw (counted t m a h c f, split-off t a off, plain, n, p, page-shown pages m v (nametableUse (t .regs)) a l c, ← selector-is v a)
+    rw (fetch-counted t m h a f c, split-off t a off, plain, n, p, page-shown pages m v (nametableUse (t .regs)) a l c, ← selector-is v a)
     (shown t m a (selectorAt v a) (rw selector-is (selector-small v (a / 1024))))
 
 -- What a write to $5105 leaves.

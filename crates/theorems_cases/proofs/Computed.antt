@@ -35,7 +35,7 @@ use Rattle.cpu.specs.Groups.{splitAfter, irqAfter, prgBanksAfter, chrBanksAfter
 use Rattle.cpu.specs.Reads.{pageAnswer, registerAt, registerRead, irqRead, cpuAnswer}
 use Rattle.cpu.specs.Writes.{prgPagesAfter, chrPagesAfter, registerWritten, latched, cpuStored}
 use Rattle.cpu.specs.PpuRegisters.{statusAfter, detectorAfter}
-use Rattle.ppu.specs.Fetches.{cacheAfter, ppuSeen, splitSeen}
+use Rattle.ppu.specs.Cache.{cacheAfter}
 use Rattle.ppu.specs.Served.{countedServed}
 use Rattle.board.specs.Loads.{loadedState, loadCall}
 use Rattle.board.specs.CpuSide.{cpuRead, cpuWrite}
@@ -56,7 +56,7 @@ abbrev all-some : List ℕ → List (Option ℕ)
 all-some l = map some l
 
 come : (map comes edges ≡ all-some (159 ∷ 1 ∷ 254 ∷ 1 ∷ 64 ∷ 64 ∷ 64 ∷ 192 ∷ 64 ∷ 64 ∷ 0 ∷ 0 ∷ 9 ∷ 6 ∷ 6 ∷ 959 ∷ 928 ∷ [])) × (map comes shutOut ≡ all-some (1 ∷ 254 ∷ 7 ∷ 7 ∷ 63 ∷ 5 ∷ 192 ∷ 64 ∷ 192 ∷ []))
-unfolding nextTile tilesOk spriteFetch isFirst isPrefetched columnOf lineRefused counterRefused detectorOk tick again matchesAfter isLine meets seenAt offsetOf byteAt storedAt pageStored all prgMayHoldAs chrMayHoldAs wordNumber pageOf pageStart windowPage written regsOk placed prgValues prgValuePages exramPage windowPages chrNumber chrMapped selector namePage namesMapped sameLengths gateOf lengthsOk inRange sideAt regionAt splitAddress afterName chosen ppuAfter splitAfter irqAfter prgBanksAfter chrBanksAfter pageAnswer registerAt registerRead irqRead cpuAnswer prgPagesAfter chrPagesAfter registerWritten latched cpuStored cacheAfter ppuSeen splitSeen countedServed loadedState loadCall cpuRead cpuWrite clockCall statusAfter detectorAfter ppuRegisterCall countedCall ppuFetch chrAnswer says leaves number comes boardAfter loadAccepted accepted onto seen inTurn
+unfolding nextTile tilesOk spriteFetch isFirst isPrefetched columnOf lineRefused counterRefused detectorOk tick again matchesAfter isLine meets seenAt offsetOf byteAt storedAt pageStored all prgMayHoldAs chrMayHoldAs wordNumber pageOf pageStart windowPage written regsOk placed prgValues prgValuePages exramPage windowPages chrNumber chrMapped selector namePage namesMapped sameLengths gateOf lengthsOk inRange sideAt regionAt splitAddress afterName chosen ppuAfter splitAfter irqAfter prgBanksAfter chrBanksAfter pageAnswer registerAt registerRead irqRead cpuAnswer prgPagesAfter chrPagesAfter registerWritten latched cpuStored cacheAfter countedServed loadedState loadCall cpuRead cpuWrite clockCall statusAfter detectorAfter ppuRegisterCall countedCall ppuFetch chrAnswer says leaves number comes boardAfter loadAccepted accepted onto seen inTurn
 come = (refl, refl)
 
 -- These are the values that are asked for.

@@ -23,7 +23,8 @@ use Rattle.cpu.specs.Groups.{within}
 use Rattle.cpu.specs.Reads.{cpuAnswer, audioRead}
 use Rattle.cpu.specs.Writes.{registerWritten, cpuStored}
 use Rattle.cpu.specs.PpuRegisters.{statusAfter}
-use Rattle.ppu.specs.Fetches.{cacheAfter, ppuSeen, splitSeen}
+use Rattle.ppu.specs.Cache.{cacheAfter}
+use Rattle.ppu.specs.Fetches.{ppuSeen, splitSeen}
 use Rattle.ppu.specs.Served.{countedServed, patternServed}
 use Rattle.board.specs.declared.Outcome.{Outcome}
 use Rattle.board.specs.CpuSide.{cpuPeek}
@@ -31,6 +32,7 @@ use Rattle.board.specs.Outcomes.{outcome, After, afterOf}
 use Rattle.board.specs.StateCalls.{mirroringCall, interruptCall}
 use Rattle.board_ppu.specs.Fetch.{countedCall, patternPages, patternCall}
 use Rattle.board_ppu.specs.Peeks.{ppuPeek, spritePeek}
+use Rattle.board_ppu.proofs.Made.{counted-by-groups}
 use Rattle.views.specs.Views.{cpuView, ppuView}
 use Rattle.trace.specs.declared.Call.{Call}
 use Rattle.trace.specs.declared.Call.the-variants.{Clock, CpuRead, CpuWrite, PpuRegister, PpuFetch, Reset, PpuWrite}
@@ -102,8 +104,8 @@ abbrev keptOutcome : Outcome → Outcome
 keptOutcome o = outcome (o .answer) (keptState (o .state))
 
 counted-fetch : (s : State) (m : Mem) (a : ℕ) → countedCall (keptState s) m a ≡ keptOutcome (fullCounted s m a)
-unfolding countedCall fullCounted
-counted-fetch s m a = rw (seen (s .regs) _ (s .ppu) a, split-same (s .regs) (s .vsplit) _ _ a, counted (s .regs) _ _ _ (m .exram) a _)
+unfolding fullCounted
+counted-fetch s m a = rw (counted-by-groups (keptState s) m a, seen (s .regs) _ (s .ppu) a, split-same (s .regs) (s .vsplit) _ _ a, counted (s .regs) _ _ _ (m .exram) a _)
 
 pattern-fetch : (s : State) (m : Mem) (a : ℕ) → patternCall (keptState s) m a ≡ keptOutcome (patternCall s m a)
 unfolding patternCall patternPages

@@ -13,7 +13,7 @@ use Rattle.answers.specs.declared.Answer.{Answer}
 use Rattle.answers.specs.declared.Answer.the-variants.{Nothing, Served}
 use Rattle.registers.specs.declared.Regs.{Regs}
 use Rattle.scanline.specs.Fetches.{countedAt}
-use Rattle.scanline.specs.Steps.{interruptUp}
+use Rattle.scanline.specs.Steps.{seenAt, interruptUp}
 use Rattle.scanline.specs.Tiles.{fold, leftAfter}
 use Rattle.split.specs.declared.VSplit.{VSplit}
 use Rattle.state.specs.declared.PpuStatus.{PpuStatus}
@@ -21,13 +21,14 @@ use Rattle.state.specs.declared.State.{State}
 use Rattle.state.specs.With.{withIrq, withPpu, withVsplit}
 use Rattle.cpu.specs.Reads.{cpuAnswer}
 use Rattle.cpu.specs.Writes.{prgWordAt}
-use Rattle.ppu.specs.Fetches.{cacheAfter, splitSeen}
+use Rattle.ppu.specs.Cache.{cacheAfter}
+use Rattle.ppu.specs.Fetches.{splitSeen}
 use Rattle.ppu.specs.Served.{countedServed, patternServed, spriteByte}
 use Rattle.board.specs.declared.Outcome.{Outcome}
 use Rattle.board.specs.declared.InterruptAnswer.the-variants.{Up, Down}
 use Rattle.board.specs.declared.MirroringAnswer.the-variants.{Is}
 use Rattle.board.specs.Outcomes.{outcome, After}
-use Rattle.board_ppu.specs.Fetch.{countedIrq, patternCall}
+use Rattle.board_ppu.specs.Fetch.{patternCall}
 use Rattle.board_ppu.specs.Peeks.{chrWordAt, chrAnswer}
 use Rattle.views.specs.Views.{cpuShows, ppuShows}
 use Rattle.trace.specs.declared.Call.{Call}
@@ -63,15 +64,15 @@ fullSeen g m p a =
 
 -- A fetch at $2000-$3EFF: what it leaves in the groups, and its answer by these.
 abbrev pub fullPpu : State → ℕ → PpuStatus
-fullPpu s a = fullSeen (s .regs) (countedIrq s a .«match_count») (s .ppu) a
+fullPpu s a = fullSeen (s .regs) (seenAt (s .irq) a .«match_count») (s .ppu) a
 
 abbrev pub fullSplit : State → ℕ → VSplit
-fullSplit s a = splitSeen (s .regs) (s .vsplit) (countedIrq s a) (fullPpu s a .«tile_number») a
+fullSplit s a = splitSeen (s .regs) (s .vsplit) (seenAt (s .irq) a) (fullPpu s a .«tile_number») a
 
 unfoldable pub fullCounted : State → Mem → ℕ → Outcome
 fullCounted s m a =
-    outcome (countedServed (s .regs) (fullSplit s a) (countedIrq s a .«in_frame») (fullPpu s a) (m .exram) a (chrAnswer (s .«chr_pages») m a))
-    (withVsplit (withPpu (withIrq s (countedIrq s a)) (fullPpu s a)) (fullSplit s a))
+    outcome (countedServed (s .regs) (fullSplit s a) (seenAt (s .irq) a .«in_frame») (fullPpu s a) (m .exram) a (chrAnswer (s .«chr_pages») m a))
+    (withVsplit (withPpu (withIrq s (seenAt (s .irq) a)) (fullPpu s a)) (fullSplit s a))
 
 abbrev pub fullFetch : State → Mem → ℕ → Outcome
 fullFetch s m a =

@@ -15,7 +15,8 @@ use Rattle.state.specs.declared.PpuStatus.{PpuStatus}
 use Rattle.state.specs.Gate.{gateMem}
 use Rattle.cpu.specs.Chosen.{chosen, ppuAfter}
 use Rattle.cpu.specs.PpuRegisters.{statusAfter}
-use Rattle.ppu.specs.Fetches.{cacheAfter, ppuSeen, splitSeen}
+use Rattle.ppu.specs.Cache.{cacheAfter}
+use Rattle.ppu.specs.Fetches.{ppuSeen, splitSeen}
 use Rattle.ppu.specs.Served.{countedServed, patternServed}
 use Rattle.theorems_histories.specs.Accepted.{refusal}
 use Rattle.theorems_histories.specs.Boards.{Board, Made, says, leaves}

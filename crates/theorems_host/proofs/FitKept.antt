@@ -37,7 +37,9 @@ use Rattle.board.specs.declared.Outcome.{Outcome}
 use Rattle.board.specs.CpuSide.{cpuRead, cpuWrite}
 use Rattle.board.specs.Outcomes.{After, refused, behind}
 use Rattle.board.specs.StateCalls.{resetCall, clockCall, ppuRegisterCall}
-use Rattle.board_ppu.specs.Fetch.{countedIrq, countedPpu, countedCall, patternPpu, patternPages, patternCall, ppuFetch}
+use Rattle.board_ppu.specs.Counted.{countedIrq, countedPpu}
+use Rattle.board_ppu.specs.Fetch.{countedCall, patternPpu, patternPages, patternCall, ppuFetch}
+use Rattle.board_ppu.proofs.Made.{counted-by-groups}
 use Rattle.board_ppu.specs.Peeks.{ppuWrite}
 use Rattle.trace.specs.declared.Call.{Call}
 use Rattle.trace.specs.declared.Call.the-variants.{Clock, CpuRead, CpuWrite, PpuRegister, PpuFetch, Reset, PpuWrite}
@@ -236,9 +238,9 @@ unfolding cpuWrite
 cpu-write-fits s m a v k h = behind-keeps FitAfter (gateMem s m) _ _ (λ why. h) (pick-keeps FitAfter (audioWrite a) h (register-fits s a v k h))
 
 counted-fits : (s : State) (m : Mem) (a : ℕ) → a ≤ 65535 → FitState s → FitOut (countedCall s m a)
-unfolding countedCall
 counted-fits s m a k h =
-    record {
+    rw (counted-by-groups s m a)
+    (record {
       regs = h .regs;
       split = seen-small (s .regs) (s .vsplit) (countedIrq s a) (countedPpu s a .«tile_number») a (h .split);
       irq = seen-fits (s .irq) a k (h .irq);
@@ -246,7 +248,7 @@ counted-fits s m a k h =
       chr-banks = h .chr-banks;
       prg-pages = h .prg-pages;
       chr-pages = h .chr-pages;
-    }
+    })
 
 pattern-fits : (s : State) (m : Mem) (a : ℕ) → FitState s → FitOut (patternCall s m a)
 unfolding patternCall

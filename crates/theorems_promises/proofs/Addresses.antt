@@ -18,11 +18,13 @@ use Rattle.state.specs.Gate.{gateMem}
 use Rattle.state.specs.Lengths.{prgTaken, chrTaken, ramTaken}
 use Rattle.state.specs.Ranges.{inRange}
 use Rattle.state.proofs.RangeLaws.{ranged}
+use Rattle.ppu.specs.Fetches.{ppuSeen, splitSeen}
 use Rattle.board.specs.declared.Outcome.{Outcome}
 use Rattle.board.specs.CpuSide.{cpuWrite}
 use Rattle.board.specs.Loads.{loadCall, loadedState}
 use Rattle.board.specs.StateCalls.{resetCall, clockCall, ppuRegisterCall}
-use Rattle.board_ppu.specs.Fetch.{countedSplit, countedCall, patternCall, ppuFetch}
+use Rattle.board_ppu.specs.Counted.{countedSplit}
+use Rattle.board_ppu.specs.Fetch.{countedCall, patternCall, ppuFetch}
 use Rattle.board_ppu.specs.Peeks.{ppuWrite}
 use Rattle.theorems_promises.specs.Address.{AddressStays, countedCallWith8, SameFetch}
 use Rattle.theorems_promises.proofs.Fetching.{split-keeps}
@@ -67,5 +69,5 @@ address-stays =
 
 -- The test that refusal 8 stood behind is false.
 pub same-fetch : SameFetch
-unfolding countedCall countedCallWith8
+unfolding countedCall countedCallWith8 ppuSeen splitSeen
 same-fetch eight s m a h = rw (le-ltb 959 _ (address-in-range (countedSplit s a) (split-keeps s a (ranged s h .vsplit))), and-false _)

@@ -26,9 +26,12 @@ use Rattle.state.specs.Gate.{gateMem}
 use Rattle.state.specs.Ranges.{inRange}
 use Rattle.state.proofs.RangeLaws.{ranged, in-range}
 use Rattle.cpu.specs.Chosen.{chosen, setChanged}
-use Rattle.ppu.specs.Fetches.{cacheAfter, ppuSeen, splitSeen}
-use Rattle.board_ppu.specs.Fetch.{countedIrq, countedPpu, countedSplit, countedState, countedCall, patternPages, patternPpu, patternState, patternCall, ppuFetch}
+use Rattle.ppu.specs.Cache.{cacheAfter}
+use Rattle.ppu.specs.Fetches.{ppuSeen, splitSeen}
+use Rattle.board_ppu.specs.Counted.{countedIrq, countedPpu, countedSplit, countedState}
+use Rattle.board_ppu.specs.Fetch.{patternPages, patternPpu, patternState, patternCall, ppuFetch}
 use Rattle.board_ppu.specs.Peeks.{ppuWrite}
+use Rattle.board_ppu.proofs.Made.{counted-by-groups}
 use Rattle.theorems_promises.proofs.Calls.{mappable}
 use Rattle.theorems_promises.proofs.Gates.{same, in-range-of, stays, page-stored-sizes}
 use Rattle.theorems_promises.proofs.Mapped.{chr-keeps}
@@ -82,14 +85,14 @@ module _ (s : State) (a : ℕ) (h : inRange s ≡ true) where
 
 module _ (s : State) (m : Mem) (h : gateMem s m ≡ Open) where
   pub fetch-open : (a : ℕ) → gateMem (ppuFetch s m a .state) m ≡ Open
-  unfolding ppuFetch countedCall patternCall
+  unfolding ppuFetch patternCall
   fetch-open a =
       let r = in-range-of s m h in
       split (counterRefused (s .irq) a)
       (λ t. rw (h, t) h)
       (λ free. rw (h, free)
       (split (countedAt a)
-      (λ counts. rw counts (stays s _ m m h refl (name-keeps-range s a r counts free) (same m)))
+      (λ counts. rw (counts, counted-by-groups s m a) (stays s _ m m h refl (name-keeps-range s a r counts free) (same m)))
       (λ no. rw no
       (split (ltb a 0x2000)
       (λ low. rw low (stays s _ m m h refl (pattern-keeps-range s a r) (same m)))

@@ -30,7 +30,9 @@ use Rattle.board.specs.declared.Outcome.{Outcome}
 use Rattle.board.specs.CpuSide.{cpuRead, cpuPeek, cpuWrite}
 use Rattle.board.specs.StateCalls.{resetCall, clockCall, ppuRegisterCall, mirroringCall, interruptCall}
 use Rattle.board.specs.Outcomes.{refused}
-use Rattle.board_ppu.specs.Fetch.{countedIrq, countedPpu, countedSplit, countedCall, patternCall, ppuFetch}
+use Rattle.board_ppu.specs.Counted.{countedIrq, countedPpu, countedSplit}
+use Rattle.board_ppu.specs.Fetch.{patternCall, ppuFetch}
+use Rattle.board_ppu.proofs.Made.{counted-by-groups}
 use Rattle.board_ppu.specs.Peeks.{chrWordAt, chrAnswer, ppuPeek, spritePeek, ppuWrite}
 use Rattle.theorems_promises.specs.Kept.{GateStaysOpen}
 use Rattle.theorems_promises.specs.Refused.{RefusedWith, WhoIsRefused}
@@ -70,11 +72,11 @@ pattern-is-given g v d p e c a x h =
     pick-keeps Given (splitServes g v (d .«in_frame»)) refl (pick-keeps Given (attributeUse g && not (spriteFetch (p .«tile_number»))) refl h)
 
 fetch-is-given : (s : State) (m : Mem) (a : ℕ) → gateMem s m ≡ Open → counterRefused (s .irq) a ≡ false → Given (ppuFetch s m a .answer)
-unfolding ppuFetch countedCall patternCall
+unfolding ppuFetch patternCall
 fetch-is-given s m a h free =
     rw (h, free)
     (split (countedAt a)
-    (λ counts. rw counts (name-is-given (s .regs) (countedSplit s a) (countedIrq s a .«in_frame») (countedPpu s a) (m .exram) a _ (page-is-given (s .«chr_pages») m a)))
+    (λ counts. rw (counts, counted-by-groups s m a) (name-is-given (s .regs) (countedSplit s a) (countedIrq s a .«in_frame») (countedPpu s a) (m .exram) a _ (page-is-given (s .«chr_pages») m a)))
     (λ no. rw no
     (split (ltb a 0x2000)
     (λ low. rw low (pattern-is-given (s .regs) (s .vsplit) (s .irq) _ (m .exram) (m .chr) a _ (page-is-given _ m a)))

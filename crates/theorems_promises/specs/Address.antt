@@ -13,14 +13,13 @@ use Rattle.state.specs.declared.gate.Gate.the-variants.{Open}
 use Rattle.state.specs.declared.State.{State}
 use Rattle.state.specs.Gate.{gateMem}
 use Rattle.state.specs.Ranges.{inRange}
-use Rattle.ppu.specs.Served.{splitServes, countedServed}
+use Rattle.ppu.specs.Served.{splitServes}
 use Rattle.board.specs.declared.Outcome.{Outcome}
 use Rattle.board.specs.CpuSide.{cpuRead, cpuWrite}
 use Rattle.board.specs.Loads.{loadCall}
-use Rattle.board.specs.Outcomes.{outcome}
 use Rattle.board.specs.StateCalls.{resetCall, clockCall, ppuRegisterCall}
-use Rattle.board_ppu.specs.Fetch.{countedIrq, countedPpu, countedSplit, countedState, countedCall, ppuFetch}
-use Rattle.board_ppu.specs.Peeks.{chrAnswer, ppuWrite}
+use Rattle.board_ppu.specs.Fetch.{tileCounted, tileCached, lineSeen, splitMoved, answered, countedCall, ppuFetch}
+use Rattle.board_ppu.specs.Peeks.{ppuWrite}
 
 pub record AddressStays : Type 0 where
   pub fetch : (s : State) (m : Mem) (a : ℕ) → gateMem s m ≡ Open → ppuFetch s m a .state .vsplit .«tile_addr» ≤ 959
@@ -41,8 +40,8 @@ pub record AddressStays : Type 0 where
 -- "then delete the test": a fetch at $2000-$3EFF as it was with it, `eight` being what refusal 8 gave. It stands for `SameFetch` alone.
 unfoldable pub countedCallWith8 : Outcome → State → Mem → ℕ → Outcome
 countedCallWith8 eight s m a =
-    pick (splitServes (s .regs) (countedSplit s a) (countedIrq s a .«in_frame») && ltb 959 (countedSplit s a .«tile_addr»)) eight
-    (outcome (countedServed (s .regs) (countedSplit s a) (countedIrq s a .«in_frame») (countedPpu s a) (m .exram) a (chrAnswer (s .«chr_pages») m a)) (countedState s a))
+    let t = splitMoved (lineSeen (tileCached (tileCounted s a) a) a) a in
+    pick (splitServes (t .regs) (t .vsplit) (t .irq .«in_frame») && ltb 959 (t .vsplit .«tile_addr»)) eight (answered t m a)
 
 -- Whatever 8 gave: without the test no state in range gets another answer, or is left another state.
 abbrev pub SameFetch : Type 0

@@ -40,7 +40,9 @@ use Rattle.board.specs.declared.Outcome.{Outcome}
 use Rattle.board.specs.CpuSide.{cpuRead, cpuWrite}
 use Rattle.board.specs.Outcomes.{refused, After, afterOf, behind}
 use Rattle.board.specs.StateCalls.{resetCall, clockCall, ppuRegisterCall}
-use Rattle.board_ppu.specs.Fetch.{countedIrq, countedPpu, countedSplit, countedCall, patternPpu, patternCall, ppuFetch}
+use Rattle.board_ppu.specs.Counted.{countedIrq, countedPpu, countedSplit}
+use Rattle.board_ppu.specs.Fetch.{countedCall, patternPpu, patternCall, ppuFetch}
+use Rattle.board_ppu.proofs.Made.{counted-by-groups}
 use Rattle.board_ppu.specs.Peeks.{chrAnswer, ppuWrite}
 use Rattle.trace.specs.declared.Call.{Call}
 use Rattle.trace.specs.declared.Call.the-variants.{Clock, CpuRead, CpuWrite, PpuRegister, PpuFetch, Reset, PpuWrite}
@@ -218,8 +220,7 @@ unfolding seenAt
 line-small d a h = h
 
 counted-call-small : (s : State) (m : Mem) (a : ℕ) → SmallState s → SmallMem m → SmallOut (countedCall s m a)
-unfolding countedCall
-counted-call-small s m a h k = (
+counted-call-small s m a h k = rw (counted-by-groups s m a) (
   counted-small (s .regs) (countedSplit s a) (countedIrq s a .«in_frame») (countedPpu s a) (m .exram) a (chrAnswer (s .«chr_pages») m a) (h .regs) (k .exram) (chr-small (s .«chr_pages») m a k),
   record { regs = h .regs; split = seen-small (s .regs) (s .vsplit) (countedIrq s a) (countedPpu s a .«tile_number») a (h .split); line = line-small (s .irq) a (h .line); prg-banks = h .prg-banks; chr-banks = h .chr-banks },
 )

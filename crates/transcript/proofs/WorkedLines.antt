@@ -24,7 +24,7 @@ use Rattle.cpu.specs.Groups.{splitAfter, irqAfter, prgBanksAfter, chrBanksAfter
 use Rattle.cpu.specs.Reads.{pageAnswer, registerAt, registerRead, irqRead, cpuAnswer}
 use Rattle.cpu.specs.Writes.{prgPagesAfter, chrPagesAfter, registerWritten, latched, cpuStored}
 use Rattle.cpu.specs.PpuRegisters.{statusAfter, detectorAfter}
-use Rattle.ppu.specs.Fetches.{cacheAfter, ppuSeen, splitSeen}
+use Rattle.ppu.specs.Cache.{cacheAfter}
 use Rattle.ppu.specs.Served.{countedServed}
 use Rattle.board.specs.Loads.{loadedState, loadCall}
 use Rattle.board.specs.CpuSide.{cpuRead, cpuWrite}
@@ -41,5 +41,5 @@ use Rattle.text.specs.Lines.{line}
 use Rattle.transcript.specs.Lines.{linesFrom}
 
 pub worked-lines : linesFrom 22 worked 0 0 (loadCall cartridge false Horizontal .state) cartridge ≡ workedLines
-unfolding nextTile tilesOk spriteFetch isFirst isPrefetched columnOf lineRefused counterRefused detectorOk tick again matchesAfter isLine meets seenAt offsetOf byteAt storedAt pageStored all prgMayHoldAs chrMayHoldAs wordNumber pageOf pageStart windowPage written regsOk placed prgValues prgValuePages exramPage windowPages chrNumber chrMapped selector namePage namesMapped sameLengths gateOf lengthsOk inRange chosen ppuAfter splitAfter irqAfter prgBanksAfter chrBanksAfter pageAnswer registerAt registerRead irqRead cpuAnswer prgPagesAfter chrPagesAfter registerWritten latched cpuStored cacheAfter ppuSeen splitSeen countedServed loadedState loadCall cpuRead cpuWrite clockCall statusAfter detectorAfter ppuRegisterCall countedCall ppuFetch chrAnswer grouped numeral limited numbered filled recordAt countedPages cartridge before line linesFrom
+unfolding nextTile tilesOk spriteFetch isFirst isPrefetched columnOf lineRefused counterRefused detectorOk tick again matchesAfter isLine meets seenAt offsetOf byteAt storedAt pageStored all prgMayHoldAs chrMayHoldAs wordNumber pageOf pageStart windowPage written regsOk placed prgValues prgValuePages exramPage windowPages chrNumber chrMapped selector namePage namesMapped sameLengths gateOf lengthsOk inRange chosen ppuAfter splitAfter irqAfter prgBanksAfter chrBanksAfter pageAnswer registerAt registerRead irqRead cpuAnswer prgPagesAfter chrPagesAfter registerWritten latched cpuStored cacheAfter countedServed loadedState loadCall cpuRead cpuWrite clockCall statusAfter detectorAfter ppuRegisterCall countedCall ppuFetch chrAnswer grouped numeral limited numbered filled recordAt countedPages cartridge before line linesFrom
 worked-lines = refl

@@ -1,6 +1,6 @@
 -- The two arms are the two cases of `cacheAfter`.
 use borrow.Author.Needs.{needs}
-use Rattle.ppu.specs.Fetches.{cacheAfter}
+use Rattle.ppu.specs.Cache.{cacheAfter}
 use Rattle.ppu.proofs.fetches.cache_after.Statement.{statement}
 use Rattle.ppu.proofs.fetches.cache_after.Tie as tie
 
