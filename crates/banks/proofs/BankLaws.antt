@@ -29,28 +29,28 @@ eight m at w =
     (getD w 7 (word 0))
 
 -- One page more: page j of window i.
-page-next : (prg ram : ℕ) (free : Bool) (values : List ℕ) (pages m : List PageWord) (i j : ℕ) (w : List PageWord) → j < 8
-    → w ≡ prgValuePages prg ram free (getD values i 0) → m ≡ placed pages 24 (pageFrom6000 prg ram free values) (8 * i + j)
-    → set m (24 + 8 * i + j) (getD w j (word 0)) ≡ placed pages 24 (pageFrom6000 prg ram free values) (8 * i + (j + 1))
-page-next prg ram free values pages m i j w few h e =
+page-next : (prg ram : ℕ) (writable : Bool) (values : List ℕ) (pages m : List PageWord) (i j : ℕ) (w : List PageWord) → j < 8
+    → w ≡ prgValuePages prg ram writable (getD values i 0) → m ≡ placed pages 24 (pageFrom6000 prg ram writable values) (8 * i + j)
+    → set m (24 + 8 * i + j) (getD w j (word 0)) ≡ placed pages 24 (pageFrom6000 prg ram writable values) (8 * i + (j + 1))
+page-next prg ram writable values pages m i j w few h e =
     let window : (8 * i + j) / 8 ≡ i = omega arith in
     let inside : (8 * i + j) % 8 ≡ j = omega arith in
-    let next = placed-next pages m 24 (pageFrom6000 prg ram free values) (8 * i + j) (getD w j (word 0)) e (rw (window, inside, h)) in
+    let next = placed-next pages m 24 (pageFrom6000 prg ram writable values) (8 * i + j) (getD w j (word 0)) e (rw (window, inside, h)) in
     let at : 24 + (8 * i + j) ≡ 24 + 8 * i + j = omega arith in
     let more : 8 * i + j + 1 ≡ 8 * i + (j + 1) = omega arith in
     rw (at, more) at next
 
 -- One window more: its eight pages.
-pub window-next : (prg ram : ℕ) (free : Bool) (values : List ℕ) (pages m : List PageWord) (i : ℕ) (w : List PageWord)
-    → m ≡ placed pages 24 (pageFrom6000 prg ram free values) (8 * i) → w ≡ prgValuePages prg ram free (getD values i 0)
-    → eight m (24 + 8 * i) w ≡ placed pages 24 (pageFrom6000 prg ram free values) (8 * (i + 1))
-window-next prg ram free values pages m i w e h =
+pub window-next : (prg ram : ℕ) (writable : Bool) (values : List ℕ) (pages m : List PageWord) (i : ℕ) (w : List PageWord)
+    → m ≡ placed pages 24 (pageFrom6000 prg ram writable values) (8 * i) → w ≡ prgValuePages prg ram writable (getD values i 0)
+    → eight m (24 + 8 * i) w ≡ placed pages 24 (pageFrom6000 prg ram writable values) (8 * (i + 1))
+window-next prg ram writable values pages m i w e h =
     let first : 8 * i ≡ 8 * i + 0 = omega arith in
     let start : 24 + 8 * i + 0 ≡ 24 + 8 * i = omega arith in
     let last : 8 * i + 8 ≡ 8 * (i + 1) = omega arith in
-    let step : (j : ℕ) → j < 8 → (n : List PageWord) → n ≡ placed pages 24 (pageFrom6000 prg ram free values) (8 * i + j)
-    → set n (24 + 8 * i + j) (getD w j (word 0)) ≡ placed pages 24 (pageFrom6000 prg ram free values) (8 * i + (j + 1))
-    = λ j few n. page-next prg ram free values pages n i j w few h in
+    let step : (j : ℕ) → j < 8 → (n : List PageWord) → n ≡ placed pages 24 (pageFrom6000 prg ram writable values) (8 * i + j)
+    → set n (24 + 8 * i + j) (getD w j (word 0)) ≡ placed pages 24 (pageFrom6000 prg ram writable values) (8 * i + (j + 1))
+    = λ j few n. page-next prg ram writable values pages n i j w few h in
     rw last at
     (step 7 (omega arith) _ (step 6 (omega arith) _ (step 5 (omega arith) _ (step 4 (omega arith) _ (step 3 (omega arith) _ (step 2 (omega arith) _
     (step 1 (omega arith) _ (rw start at (step 0 (omega arith) m (rw first at e))))))))))
@@ -82,7 +82,7 @@ set-start-most true = omega arith
 set-start-most false = omega arith
 
 -- The choice of a set, by its four tests.
-pub wants : (t s f b : Bool) → t && (not s && (f || b)) ≡ background t s f b
+pub wants : (t s f b : Bool) → t && (not s && (f || b)) ≡ background (record { tall = t; fetching-sprites = s; framed = f; written-to-background = b })
 wants false s f b = refl
 wants true true f b = refl
 wants true false true b = refl

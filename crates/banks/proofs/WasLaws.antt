@@ -36,16 +36,16 @@ prg-values-is mode b = rw (add-zero (rom (getD b 4 0) / 4 * 4))
 
 -- The first n windows mapped, one after the other.
 unfoldable pub windowsMapped : ℕ → ℕ → Bool → List ℕ → List PageWord → ℕ → List PageWord
-windowsMapped prg ram free values pages zero = pages
-windowsMapped prg ram free values pages (suc n) =
-    placed (windowsMapped prg ram free values pages n) (24 + 8 * n) (λ (k : ℕ). getD (prgValuePages prg ram free (getD values n 0)) k (word 0)) 8
+windowsMapped prg ram writable values pages zero = pages
+windowsMapped prg ram writable values pages (suc n) =
+    placed (windowsMapped prg ram writable values pages n) (24 + 8 * n) (λ (k : ℕ). getD (prgValuePages prg ram writable (getD values n 0)) k (word 0)) 8
 
-windows-are : (prg ram : ℕ) (free : Bool) (values : List ℕ) (pages : List PageWord) (n : ℕ)
-    → windowsMapped prg ram free values pages n ≡ placed pages 24 (pageFrom6000 prg ram free values) (8 * n)
+windows-are : (prg ram : ℕ) (writable : Bool) (values : List ℕ) (pages : List PageWord) (n : ℕ)
+    → windowsMapped prg ram writable values pages n ≡ placed pages 24 (pageFrom6000 prg ram writable values) (8 * n)
 unfolding windowsMapped placed
-windows-are prg ram free values pages zero = placed-none pages 24 (pageFrom6000 prg ram free values)
-windows-are prg ram free values pages (suc n) =
-    rw (add-zero (24 + 8 * n), ← add-one n) (window-next prg ram free values pages _ n _ (windows-are prg ram free values pages n) refl)
+windows-are prg ram writable values pages zero = placed-none pages 24 (pageFrom6000 prg ram writable values)
+windows-are prg ram writable values pages (suc n) =
+    rw (add-zero (24 + 8 * n), ← add-one n) (window-next prg ram writable values pages _ n _ (windows-are prg ram writable values pages n) refl)
 
 pub prg-mapped-is : (prg ram : ℕ) (g : Regs) (b : List ℕ) (pages : List PageWord)
     → prgMapped prg ram g b pages ≡ windowsMapped prg ram (unlocked g) (prgValues (g .«prg_mode») b) pages 5

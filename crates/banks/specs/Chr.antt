@@ -41,8 +41,14 @@ unfoldable pub chrMapped : ℕ → Bool → Regs → List ℕ → Bool → List 
 chrMapped chr asRam g b bg pages = placed pages 0 (λ (k : ℕ). chrWindow Chr chr (chrNumber g b bg k) asRam) 8
 
 -- "Set: sprite if 8x8, or tile count 32-39, or out of frame with the last CHR write a sprite one; else background."
-abbrev pub sprites : Bool → Bool → Bool → Bool → Bool
-sprites tall spriteFetch framed bgWritten = not tall || (spriteFetch || (not framed && not bgWritten))
+pub record Asked : Type 0 where
+  pub tall : Bool
+  pub fetching-sprites : Bool
+  pub framed : Bool
+  pub written-to-background : Bool
 
-abbrev pub background : Bool → Bool → Bool → Bool → Bool
-background tall spriteFetch framed bgWritten = not (sprites tall spriteFetch framed bgWritten)
+abbrev pub sprites : Asked → Bool
+sprites q = not (q .tall) || (q .fetching-sprites || (not (q .framed) && not (q .written-to-background)))
+
+abbrev pub background : Asked → Bool
+background q = not (sprites q)

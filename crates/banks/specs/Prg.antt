@@ -47,11 +47,11 @@ prgValues mode b =
 
 -- "bit 7 set means ROM with seven bits": the eight pages of a window that shows a value; RAM is writable where it is unlocked.
 unfoldable pub prgValuePages : ℕ → ℕ → Bool → ℕ → List PageWord
-prgValuePages prg ram free v = pick (leb 128 v) (prgWindow PrgRom prg (v % 128) false) (prgWindow PrgRam ram (ramBank v) free)
+prgValuePages prg ram writable v = pick (leb 128 v) (prgWindow PrgRom prg (v % 128) false) (prgWindow PrgRam ram (ramBank v) writable)
 
 -- Page k of the forty from $6000 on: page k mod 8 of window k / 8, by the value that the window shows.
 abbrev pub pageFrom6000 : ℕ → ℕ → Bool → List ℕ → ℕ → PageWord
-pageFrom6000 prg ram free values k = getD (prgValuePages prg ram free (getD values (k / 8) 0)) (k % 8) (word 0)
+pageFrom6000 prg ram writable values k = getD (prgValuePages prg ram writable (getD values (k / 8) 0)) (k % 8) (word 0)
 
 -- The table with the five windows mapped; $6000 is page 24.
 abbrev pub prgMapped : ℕ → ℕ → Regs → List ℕ → List PageWord → List PageWord

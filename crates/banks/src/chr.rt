@@ -124,7 +124,7 @@ pub fn wants_background(
     in_frame: bool,
     bg_written: bool,
 ) -> bool
-    ensures { λ r. ⌜ r ≡ background sprite8x16 «sprite_fetch» «in_frame» «bg_written» ⌝ }
+    ensures { λ r. ⌜ r ≡ background (record { tall = sprite8x16; fetching-sprites = «sprite_fetch»; framed = «in_frame»; written-to-background = «bg_written» }) ⌝ }
 {
     sprite8x16 & (!sprite_fetch & (in_frame | bg_written))
 }

@@ -1,7 +1,7 @@
 -- The zero state's split, detector and PPU status are those of load, whose values of these are zeros too: the code takes the first two from there.
 use mathlib.Core.Path.{_≡_, refl}
 use Rattle.scanline.specs.Steps.{detectorAtLoad}
-use Rattle.split.specs.Control.{afterLoad}
+use Rattle.split.specs.Control.{splitAtLoad}
 use Rattle.state.specs.declared.State.{State}
 use Rattle.board.specs.Loads.{zeroState, statusAtLoad}
 
@@ -9,7 +9,7 @@ pub zero-is
     : zeroState ≡ record {
       lengths = zeroState .lengths;
       regs = zeroState .regs;
-      vsplit = afterLoad;
+      vsplit = splitAtLoad;
       irq = detectorAtLoad;
       ppu = statusAtLoad;
       screen = zeroState .screen;

@@ -17,7 +17,7 @@ use Rattle.banks.specs.Chr.{chrMapped}
 use Rattle.banks.specs.Names.{namesMapped}
 use Rattle.banks.specs.Prg.{prgMapped}
 use Rattle.scanline.specs.Steps.{detectorAtLoad}
-use Rattle.split.specs.Control.{afterLoad}
+use Rattle.split.specs.Control.{splitAtLoad}
 use Rattle.state.specs.declared.Lengths.{Lengths}
 use Rattle.state.specs.declared.PpuStatus.{PpuStatus}
 use Rattle.state.specs.declared.State.{State}
@@ -61,7 +61,7 @@ loadedState z m =
     record {
       lengths = z;
       regs = regsAtLoad;
-      vsplit = afterLoad;
+      vsplit = splitAtLoad;
       irq = detectorAtLoad;
       ppu = statusAtLoad;
       screen = record { mirroring = m };

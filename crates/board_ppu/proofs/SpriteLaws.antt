@@ -10,9 +10,10 @@ use lib.Arith.{mod-mul}
 use lib.Dec.{eqb}
 use lib.ListN.{length, getD}
 use Rattle.memory.specs.declared.Src.the-variants.{Chr}
-use Rattle.memory.specs.Bytes.{Mem, offsetOf, byteAt, pageByte}
+use Rattle.memory.specs.Bytes.{Mem, byteAt, pageByte}
 use Rattle.memory.specs.Windows.{pageStart, windowPage, chrWindow}
-use Rattle.memory.specs.PageWords.{word, page, blank, namedAs, wordOf, pageOf}
+use Rattle.memory.specs.PageWords.{word, page, blank, wordOf, pageOf}
+use Rattle.memory.specs.Named.{namedAs}
 use Rattle.memory.proofs.Tests.{split}
 use Rattle.memory.proofs.WindowLaws.{one-page-window, shown-page}
 use Rattle.memory.proofs.WordLaws.{making-is-undone}
@@ -38,7 +39,7 @@ module _ (m : Mem) (n a : ℕ) (w : Bool) where
 
   shown : 1 ≤ length (m .chr) → length (m .chr) % 1024 ≡ 0 → length (m .chr) ≤ 1048576
       → pageByte m (pageOf (chrWindow Chr (length (m .chr)) n w)) a ≡ getD (m .chr) (n % (length (m .chr) / 1024) * 1024 + a % 1024) 0
-  unfolding byteAt offsetOf namedAs
+  unfolding byteAt namedAs
   shown h e most =
       let few : n % (length (m .chr) / 1024) < 1024 = omega (arith, mod-lt n {m = length (m .chr) / 1024} (omega arith)) in
       rw (shown-page Chr (length (m .chr)) 1024 n w 0 h, one-page-window (length (m .chr)) n h e, making-is-undone (page Chr (n % (length (m .chr) / 1024)) w) (lt-ltb (n % (length (m .chr) / 1024)) 1024 few))

@@ -19,4 +19,4 @@ upto lo hi a e = leb-true a hi (and-right (leb lo a) (leb a hi) e)
 
 pub answer-low : (m : Mem) (p : Page) (a : ℕ) → pageAnswer m p (a % 1024) ≡ pageAnswer m p a
 unfolding pageAnswer
-answer-low m p a = rw (offset-low (p .src) (p .index) a)
+answer-low m p a = rw (offset-low (p .index) a)

@@ -4,7 +4,7 @@ use mathlib.Core.Bool.{Bool, true, false, _&&_, _||_, not}
 use lib.Dec.{eqb}
 use Rattle.memory.specs.Tests.{pick}
 use Rattle.scanline.specs.Tiles.{spriteFetch}
-use Rattle.banks.specs.Chr.{background}
+use Rattle.banks.specs.Chr.{Asked, background}
 use Rattle.state.specs.declared.PpuStatus.{PpuStatus}
 use Rattle.state.specs.With.{withBgSet, withBgWritten}
 use Rattle.cpu.specs.Groups.{within}
@@ -16,7 +16,8 @@ lastToBackground p = p .sprite8x16 && p .«bg_written»
 -- The status after a choice: that, and the set that module 5 then gives.
 unfoldable pub chosen : PpuStatus → Bool → PpuStatus
 chosen p framed =
-    withBgSet (withBgWritten p (lastToBackground p)) (background (p .sprite8x16) (spriteFetch (p .«tile_number»)) framed (lastToBackground p))
+    let asked : Asked = record { tall = p .sprite8x16; fetching-sprites = spriteFetch (p .«tile_number»); framed = framed; written-to-background = lastToBackground p } in
+    withBgSet (withBgWritten p (lastToBackground p)) (background asked)
 
 -- A CPU write: to the sprites' registers $5120-$5127, to the background's $5128-$512B, or to $5101, it chooses; no other
 -- does (the Rust's `write_register`; module 5: a $5130 write "doesn't choose again").

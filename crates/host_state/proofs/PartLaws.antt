@@ -12,7 +12,8 @@ use lib.Seq.{length-take-le, getD-take, getD-drop, paste, paste-zero, paste-suc}
 use Rattle.memory.specs.declared.PageWord.{PageWord}
 use Rattle.memory.specs.Tables.{prgMayHold, prgTableOk}
 use Rattle.memory.specs.Tests.{all, pick}
-use Rattle.memory.specs.PageWords.{word, pageOf, prgPlace, prgPlaces}
+use Rattle.memory.specs.PageWords.{word, pageOf}
+use Rattle.memory.specs.ForCode.{prgPlace, prgPlaces}
 use Rattle.memory.proofs.TableLaws.{Tested, test-first, prg-run}
 use Rattle.host_state.specs.Words.{pageNumber, numbersOf, pagesOf, prgNumbers}
 use Rattle.host_state.proofs.MappedLaws.{Mapped, map-first, map-next, map-last, numbers-next, numbers-last, larger-test}

@@ -11,7 +11,8 @@ use lib.ListN.{length, take, getD, set}
 use lib.Seq.{take-suc, take-all}
 use Rattle.memory.specs.declared.Page.{Page}
 use Rattle.memory.specs.declared.PageWord.{PageWord}
-use Rattle.memory.specs.PageWords.{pageOf, prgPlace, prgPlaces}
+use Rattle.memory.specs.PageWords.{pageOf}
+use Rattle.memory.specs.ForCode.{prgPlace, prgPlaces}
 use Rattle.memory.specs.Tests.{pick, all}
 use Rattle.memory.specs.Tables.{wholePage, prgMayHold, prgMayHoldAs, chrMayHold, chrMayHoldAs}
 use Rattle.memory.proofs.Tests.{split, or-false, and-true, and-false, lt-is-le, le-is-le}

@@ -14,7 +14,8 @@ use Rattle.memory.specs.declared.PageWord.{PageWord}
 use Rattle.memory.specs.declared.Src.{Src}
 use Rattle.memory.specs.Tests.{pick}
 use Rattle.memory.specs.PageWords.{word, page, wordOf}
-use Rattle.memory.specs.Windows.{banks, windowStart, pageStart, following, windowPage, windowWord, prgWindow}
+use Rattle.memory.specs.Windows.{banks, windowStart, pageStart, windowPage, windowWord, prgWindow}
+use Rattle.memory.specs.ForCode.{following}
 use Rattle.memory.proofs.Tests.{split}
 
 -- As many whole banks as the buffer holds, where it holds one.

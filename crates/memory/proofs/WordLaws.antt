@@ -11,7 +11,8 @@ use Rattle.memory.specs.declared.PageWord.{PageWord}
 use Rattle.memory.specs.declared.Src.{Src}
 use Rattle.memory.specs.declared.Src.the-variants.{Blank, PrgRom, PrgRam, Chr, CiRam, ExRam}
 use Rattle.memory.specs.Bits.{asBit}
-use Rattle.memory.specs.PageWords.{word, page, blank, named, namedAs, wordNumber, wordOf, pageOf}
+use Rattle.memory.specs.PageWords.{word, page, blank, wordNumber, wordOf, pageOf}
+use Rattle.memory.specs.Named.{named, namedAs}
 use Rattle.memory.proofs.Tests.{split, and-left, and-right, and-false}
 
 -- A bool as a number.

@@ -1,4 +1,6 @@
 pub mod PageWords
+pub mod Named
+pub mod ForCode
 pub mod Bytes
 pub mod Windows
 pub mod Tables

@@ -21,19 +21,6 @@ page s i w = record { src = s; index = i; writable = w }
 abbrev pub blank : Page
 blank = page Blank 0 false
 
--- The pages that have a word. A PRG-ROM has at most 1,024 pages, a PRG-RAM 64, CHR 1,024, CIRAM two, ExRAM one.
--- 01, "STATE ranges": "Blank pages, PRG-ROM .. are never marked writable."
-unfoldable pub namedAs : Src → ℕ → Bool → Bool
-namedAs Blank i w = eqb i 0 && not w
-namedAs PrgRom i w = ltb i 1024 && not w
-namedAs PrgRam i w = ltb i 64
-namedAs Chr i w = ltb i 1024
-namedAs CiRam i w = ltb i 2
-namedAs ExRam i w = eqb i 0
-
-abbrev pub named : Page → Bool
-named p = namedAs (p .src) (p .index) (p .writable)
-
 -- The word's number, in the order of the drawing above `word_of`.
 unfoldable pub wordNumber : Src → ℕ → Bool → ℕ
 wordNumber Blank i w = 0
@@ -57,11 +44,3 @@ pageOf p =
     (pick (ltb (p .0) 2055) (page CiRam ((p .0 - 2051) / 2) (eqb ((p .0 - 2051) % 2) 1))
     (pick (ltb (p .0) 65408) (page Chr (p .0 - 2055) false)
     (page PrgRam ((65535 - p .0) / 2) (eqb ((65535 - p .0) % 2) 1)))))))
-
--- The words that a PRG table may hold are one run of 16-bit numbers, from PRG-RAM's last page past the greatest number and on to PRG-ROM's last:
--- a word's place in the run, and how many places it has. They serve `tables.rt` and state no sentence of 01.
-abbrev pub prgPlace : ℕ → PageWord → ℕ
-prgPlace ram p = (p .0 + 2 * (ram / 1024)) % 65536
-
-abbrev pub prgPlaces : ℕ → ℕ → ℕ
-prgPlaces prg ram = 3 + prg / 1024 + 2 * (ram / 1024)

@@ -3,7 +3,8 @@ use Prim.Native.Nat.{ℕ, _+_, _*_, _/_, _%_, _≤_}
 use mathlib.Core.Bool.{true}
 use mathlib.Core.Path.{_≡_}
 use Rattle.memory.specs.declared.Page.{Page}
-use Rattle.memory.specs.PageWords.{named, wordOf, pageOf}
+use Rattle.memory.specs.PageWords.{wordOf, pageOf}
+use Rattle.memory.specs.Named.{named}
 use Rattle.memory.specs.Windows.{pageStart}
 
 pub record Pages : Type 0 where

@@ -22,11 +22,6 @@ windowStart len size bank = (bank % banks len size) * size
 unfoldable pub pageStart : ℕ → ℕ → ℕ → ℕ → ℕ
 pageStart len size bank i = (windowStart len size bank + 1024 * i) % len
 
--- Where the page after the one at x starts: the next, or the first where the buffer ends. This serves the step of `prg_window` and states no
--- sentence of 01; that it gives the pages of `pageStart` is `next-page` of `proofs/WindowLaws.antt`.
-abbrev pub following : ℕ → ℕ → ℕ
-following len x = pick (ltb (x + 1024) len) (x + 1024) (x + 1024 - len)
-
 -- Page i of a window. "An empty buffer maps blank."
 unfoldable pub windowPage : Src → ℕ → ℕ → ℕ → Bool → ℕ → Page
 windowPage s len size bank w i = pick (eqb len 0) blank (page s (pageStart len size bank i / 1024) w)

@@ -91,17 +91,10 @@ pub fn page_of(word: PageWord) -> Page
     }
 }
 
-// The byte at an offset within the page that a word names. Blank has the place 0 only.
+// The byte at an offset within the page that a word names.
 pub fn place_of(word: PageWord, offset: u16) -> Place
     ensures { λ r. ⌜ r ≡ placeOf (pageOf word) offset ⌝ }
 {
-    let n = word.0;
-    if n == 0 {
-        return Place {
-            src: Src::Blank,
-            offset: 0,
-        };
-    }
     let page = page_of(word);
     let src = page.src;
     Place {

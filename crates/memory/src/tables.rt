@@ -2,7 +2,8 @@
 ghost use mathlib.Core.Path.{_≡_};
 ghost use Prim.Native.Nat.{_<_, _≤_};
 ghost use Rattle.memory.specs.Tests.{pick};
-ghost use Rattle.memory.specs.PageWords.{pageOf, prgPlace, prgPlaces};
+ghost use Rattle.memory.specs.PageWords.{pageOf};
+ghost use Rattle.memory.specs.ForCode.{prgPlace, prgPlaces};
 ghost use Rattle.memory.specs.Tables.{prgMayHold, chrMayHold, prgTableOk, chrTableOk};
 use crate::PageWord;
 

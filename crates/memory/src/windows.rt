@@ -1,7 +1,8 @@
 // Windows: which page of a buffer stands at each place of a window. 01, module 2, at 8,192 bytes for PRG and at one page for CHR.
 ghost use mathlib.Core.Path.{_≡_};
 ghost use Prim.Native.Nat.{_+_, _*_, _/_, _%_, _<_, _≤_};
-ghost use Rattle.memory.specs.Windows.{banks, pageStart, following, prgWindow, chrWindow};
+ghost use Rattle.memory.specs.Windows.{banks, pageStart, prgWindow, chrWindow};
+ghost use Rattle.memory.specs.ForCode.{following};
 use crate::PageWord;
 use crate::Src;
 use crate::page_words;

@@ -1,7 +1,8 @@
 -- What is served in the page's place. 01, "Fetches, runs, breaks": "Served order: split, attribute mode, fill, page." Modules 6 and 8.
 use Prim.Native.Nat.{ℕ, _+_, _*_, _/_, _%_}
 use mathlib.Core.Bool.{Bool, false, _&&_, not}
-use mathlib.Core.List.{List}
+use mathlib.Core.List.{List, [], _∷_}
+use mathlib.Core.Option.{Option, none, some}
 use lib.Dec.{eqb}
 use lib.ListN.{getD, length}
 use Rattle.memory.specs.Tests.{pick}
@@ -43,22 +44,49 @@ fillByte g attribute = pick attribute (mirroredByte (g .«fill_attr»)) (g .«fi
 abbrev pub splitServes : Regs → VSplit → Bool → Bool
 splitServes g v framed = splitActive v (nametableUse g) framed && v .«in_region»
 
--- At $2000-$3EFF. Module 6: "In attribute mode, tile count outside 32-39, an attribute address answers the top two bits of ExRAM at the tile cache,
--- mirrored"; "Fill .. is served with that use only". Selector 3 of $5105 is Fill.
+-- A value, where a test holds.
+abbrev pub given : Bool → ℕ → Option ℕ
+given b v = pick b (some v) none
+
+-- The first that answers, or else the page.
+abbrev pub served : List (Option ℕ) → Answer → Answer
+served [] page = page
+served (some v ∷ l) page = Served v
+served (none ∷ l) page = served l page
+
+-- At $2000-$3EFF, by the split. Module 8: "name fetches to $2FFF get ExRAM at t. Non-name fetches, $3000-$3EFF included, get the attribute".
+abbrev pub countedBySplit : Regs → VSplit → Bool → List ℕ → ℕ → Option ℕ
+countedBySplit g v framed exram a = given (splitServes g v framed) (splitByte v exram (nameAt a))
+
+-- Module 6: "In attribute mode, tile count outside 32-39, an attribute address answers the top two bits of ExRAM at the tile cache, mirrored"
+abbrev pub countedByAttribute : Regs → PpuStatus → List ℕ → ℕ → Option ℕ
+countedByAttribute g p exram a =
+    given (attributeUse g && (attributeAt a && not (spriteFetch (p .«tile_number»)))) (mirroredByte (getD exram (p .«tile_cache») 0 / 64))
+
+-- Module 6: Fill "is served with that use only: its tile, or at an attribute address its attribute mirrored". That use is nametable use; selector 3
+-- of $5105 is Fill.
+abbrev pub countedByFill : Regs → ℕ → Option ℕ
+countedByFill g a = given (nametableUse g && eqb (selector (g .nametables) (a / 1024)) 3) (fillByte g (attributeAt a))
+
+-- "Served order: split, attribute mode, fill, page."
 unfoldable pub countedServed : Regs → VSplit → Bool → PpuStatus → List ℕ → ℕ → Answer → Answer
 countedServed g v framed p exram a page =
-    pick (splitServes g v framed) (Served (splitByte v exram (nameAt a)))
-    (pick (attributeUse g && (attributeAt a && not (spriteFetch (p .«tile_number»)))) (Served (mirroredByte (getD exram (p .«tile_cache») 0 / 64)))
-    (pick (nametableUse g && eqb (selector (g .nametables) (a / 1024)) 3) (Served (fillByte g (attributeAt a)))
-    page))
+    served (countedBySplit g v framed exram a ∷ countedByAttribute g p exram a ∷ countedByFill g a ∷ []) page
 
--- At $0000-$1FFF. Module 8: "Pattern fetches get CHR at ..". Module 6: "a pattern fetch answers CHR at ..", in attribute mode, outside 32-39.
+-- At $0000-$1FFF, by the split. Module 8: "Pattern fetches get CHR at ($5202 << 12) OR ..", which is `patternOffset`.
+abbrev pub patternBySplit : Regs → VSplit → Detector → PpuStatus → List ℕ → ℕ → Option ℕ
+patternBySplit g v d p chr a =
+    given (splitServes g v (d .«in_frame»))
+    (direct chr (patternOffset (v .bank) a (scrollOf (d .scanline) (isPrefetched (p .«tile_number»)) (v .scroll))))
+
+-- Module 6: "In attribute mode, tile count outside 32-39, .. a pattern fetch answers CHR at (hi << 10) OR ..", which is `exOffset`.
+abbrev pub patternByAttribute : Regs → PpuStatus → List ℕ → List ℕ → ℕ → Option ℕ
+patternByAttribute g p exram chr a =
+    given (attributeUse g && not (spriteFetch (p .«tile_number»))) (direct chr (exOffset (g .«chr_hi») (getD exram (p .«tile_cache») 0) a))
+
+-- The same order. Fill is a nametable: it serves no pattern fetch.
 unfoldable pub patternServed : Regs → VSplit → Detector → PpuStatus → List ℕ → List ℕ → ℕ → Answer → Answer
-patternServed g v d p exram chr a page =
-    pick (splitServes g v (d .«in_frame»))
-    (Served (direct chr (patternOffset (v .bank) a (scrollOf (d .scanline) (isPrefetched (p .«tile_number»)) (v .scroll)))))
-    (pick (attributeUse g && not (spriteFetch (p .«tile_number»))) (Served (direct chr (exOffset (g .«chr_hi») (getD exram (p .«tile_cache») 0) a)))
-    page)
+patternServed g v d p exram chr a page = served (patternBySplit g v d p chr a ∷ patternByAttribute g p exram chr a ∷ []) page
 
 -- Module 5: "The sprite peek answers .. the CHR byte the sprite set would map there."
 unfoldable pub spriteByte : Regs → List ℕ → List ℕ → ℕ → ℕ

@@ -7,7 +7,7 @@ use borrow.Author.Tests.{leb-true, le-leb}
 use lib.Dec.{leb}
 use Rattle.memory.proofs.Tests.{and-left, and-right, and-both}
 use Rattle.split.specs.declared.VSplit.{VSplit}
-use Rattle.split.specs.Control.{afterLoad, withControl, withScroll, withBank, splitRanges}
+use Rattle.split.specs.Control.{splitAtLoad, withControl, withScroll, withBank, splitRanges}
 
 -- The two ranges as facts, and back.
 pub tile-in-range : (v : VSplit) → splitRanges v ≡ true → v .tile ≤ 31
@@ -19,7 +19,7 @@ address-in-range v h = leb-true (v .«tile_addr») 959 (and-right (leb (v .tile)
 pub in-ranges : (v : VSplit) → v .tile ≤ 31 → v .«tile_addr» ≤ 959 → splitRanges v ≡ true
 in-ranges v h k = and-both _ _ (le-leb _ _ h) (le-leb _ _ k)
 
-pub load-in-ranges : splitRanges afterLoad ≡ true
+pub load-in-ranges : splitRanges splitAtLoad ≡ true
 load-in-ranges = refl
 
 pub control-keeps-ranges : (v : VSplit) (n : ℕ) → splitRanges v ≡ true → splitRanges (withControl v n) ≡ true

@@ -6,8 +6,8 @@ use Rattle.split.specs.declared.VSplit.{VSplit}
 use Rattle.memory.specs.Bits.{bitSet}
 
 -- 01, module 10: "all else 0, off, none or sprite"; the Rust's side after load is the left one.
-abbrev pub afterLoad : VSplit
-afterLoad = record { mode = 0; enabled = false; right = false; tile = 0; scroll = 0; bank = 0; «in_region» = false; «tile_addr» = 0 }
+abbrev pub splitAtLoad : VSplit
+splitAtLoad = record { mode = 0; enabled = false; right = false; tile = 0; scroll = 0; bank = 0; «in_region» = false; «tile_addr» = 0 }
 
 -- $5200, in the Rust: "[ES.T TTTT] Split control", E enables, S set is the right side, T is the tile to split at.
 abbrev pub withControl : VSplit → ℕ → VSplit
@@ -26,7 +26,7 @@ withBank v n =
 
 -- 01, module 8: "Active when enabled, with nametable use, in frame".
 abbrev pub splitActive : VSplit → Bool → Bool → Bool
-splitActive v nametable frame = v .enabled && (nametable && frame)
+splitActive v nametable framed = v .enabled && (nametable && framed)
 
 -- 01, "STATE ranges": "split tile 0-31; tile address 0-959".
 abbrev pub splitRanges : VSplit → Bool

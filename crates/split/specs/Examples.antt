@@ -6,16 +6,16 @@ use mathlib.Core.Path.{_≡_}
 use Rattle.memory.specs.Bits.{asBit}
 use Rattle.memory.specs.Cases.{Case, is, right}
 use Rattle.split.specs.declared.VSplit.{VSplit}
-use Rattle.split.specs.Control.{afterLoad, withControl}
+use Rattle.split.specs.Control.{splitAtLoad, withControl}
 use Rattle.split.specs.Region.{scrollOf, splitAddress, withRegion, afterName}
 use Rattle.split.specs.Places.{attributeAddress, attributeShift, attributeBits, mirroredByte, patternOffset}
 
 -- Split tile 8, the split on the left or on the right, before a fetch outside the region or in it.
 abbrev pub onLeft : Bool → VSplit
-onLeft inside = withRegion (withControl afterLoad 0x88) inside 5
+onLeft inside = withRegion (withControl splitAtLoad 0x88) inside 5
 
 abbrev pub onRight : Bool → VSplit
-onRight inside = withRegion (withControl afterLoad 0xC8) inside 5
+onRight inside = withRegion (withControl splitAtLoad 0xC8) inside 5
 
 -- The region and the address after a name fetch.
 abbrev pub inRegion : VSplit → ℕ

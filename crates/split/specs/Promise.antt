@@ -3,14 +3,14 @@ use Prim.Native.Nat.{ℕ, _%_, _<_, _≤_, _^_}
 use mathlib.Core.Bool.{Bool, true}
 use mathlib.Core.Path.{_≡_}
 use Rattle.split.specs.declared.VSplit.{VSplit}
-use Rattle.split.specs.Control.{afterLoad, withControl, withScroll, withBank, splitRanges}
+use Rattle.split.specs.Control.{splitAtLoad, withControl, withScroll, withBank, splitRanges}
 use Rattle.split.specs.Region.{scrollOf, splitAddress, afterName}
 use Rattle.split.specs.Places.{attributeAddress, attributeShift, patternOffset}
 
 pub record Split : Type 0 where
   pub scroll-small : (line : ℕ) (prefetched : Bool) (y : ℕ) → scrollOf line prefetched y < 240
   -- the ranges hold after load, and every change keeps them: a name fetch at any column keeps the address at 959 or less
-  pub load-in-ranges : splitRanges afterLoad ≡ true
+  pub load-in-ranges : splitRanges splitAtLoad ≡ true
   pub control-keeps-ranges : (v : VSplit) (n : ℕ) → splitRanges v ≡ true → splitRanges (withControl v n) ≡ true
   pub scroll-keeps-ranges : (v : VSplit) (n : ℕ) → splitRanges v ≡ true → splitRanges (withScroll v n) ≡ true
   pub bank-keeps-ranges : (v : VSplit) (n : ℕ) → splitRanges v ≡ true → splitRanges (withBank v n) ≡ true

@@ -1,10 +1,10 @@
 // The split's registers $5200-$5202, when it is active, and the ranges of its state.
 ghost use mathlib.Core.Path.{_≡_};
-ghost use Rattle.split.specs.Control.{afterLoad, withControl, withScroll, withBank, splitActive, splitRanges};
+ghost use Rattle.split.specs.Control.{splitAtLoad, withControl, withScroll, withBank, splitActive, splitRanges};
 use crate::VSplit;
 
 pub fn new() -> VSplit
-    ensures { λ r. ⌜ r ≡ afterLoad ⌝ }
+    ensures { λ r. ⌜ r ≡ splitAtLoad ⌝ }
 {
     VSplit {
         mode: 0,

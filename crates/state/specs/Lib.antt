@@ -2,3 +2,4 @@ pub mod Lengths
 pub mod Ranges
 pub mod Gate
 pub mod With
+pub mod Puts

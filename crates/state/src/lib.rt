@@ -1,6 +1,8 @@
 // The board's state, by value: what load recorded, and the groups of registers, each with the crate that works on it. In the Rust, `Exrom`
 // and the page tables of `Memory`. Where 01 gives a field a range it is a number and `ranges` tests it; where it gives none the type
 // admits no bad value. Nothing is stored that follows from the rest: `irq_pending` and `mult_result` are not.
+ghost use Rattle.state.specs.Puts.{OneField};
+
 pub mod gate;
 pub mod ranges;
 pub mod sizes;
@@ -50,3 +52,8 @@ pub struct State {
     pub prg_pages: [PageWord; 64],
     pub chr_pages: [PageWord; 16],
 }
+
+// No code: its contract holds that each definition of specs/With.antt puts one field and touches no other.
+pub fn promises()
+    ensures { λ _. ⌜ OneField ⌝ }
+{}

@@ -13,7 +13,8 @@ use Rattle.memory.specs.declared.Src.{Src}
 use Rattle.memory.specs.declared.Src.the-variants.{Chr}
 use Rattle.memory.specs.Bytes.{Mem, pageByte}
 use Rattle.memory.specs.Windows.{windowPage, chrWindow}
-use Rattle.memory.specs.PageWords.{word, page, blank, namedAs, pageOf}
+use Rattle.memory.specs.PageWords.{word, page, blank, pageOf}
+use Rattle.memory.specs.Named.{namedAs}
 use Rattle.memory.proofs.Tests.{split}
 use Rattle.memory.proofs.WindowLaws.{one-page-window, shown-page}
 use Rattle.memory.proofs.WordLaws.{making-is-undone}
@@ -114,7 +115,8 @@ fetched-shows s m bg k h =
 -- The fetch ----------------------------------------------------------------------------------------------------------------------------
 
 -- With 8x8 sprites it does not matter which registers were written last.
-set-of : (tall fetches framed last : Bool) → background tall fetches framed (tall && last) ≡ background tall fetches framed last
+set-of : (tall fetches framed last : Bool) → background (record { tall = tall; fetching-sprites = fetches; framed = framed; written-to-background = tall && last })
+    ≡ background (record { tall = tall; fetching-sprites = fetches; framed = framed; written-to-background = last })
 set-of true fetches framed last = refl
 set-of false fetches framed last = refl
 

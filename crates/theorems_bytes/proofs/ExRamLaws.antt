@@ -10,8 +10,9 @@ use lib.Dec.{eqb, ltb}
 use lib.ListN.{getD, set}
 use lib.Seq.{getD-set-same}
 use Rattle.memory.specs.declared.Src.the-variants.{ExRam}
-use Rattle.memory.specs.Bytes.{Mem, memOf, byteAt, offsetOf, storedAt, pageStored}
-use Rattle.memory.specs.PageWords.{word, page, blank, namedAs, pageOf}
+use Rattle.memory.specs.Bytes.{Mem, memOf, byteAt, storedAt, pageStored}
+use Rattle.memory.specs.PageWords.{word, page, blank, pageOf}
+use Rattle.memory.specs.Named.{namedAs}
 use Rattle.memory.specs.Tests.{pick}
 use Rattle.memory.proofs.Tests.{split}
 use Rattle.memory.proofs.WordLaws.{making-is-undone}
@@ -69,14 +70,14 @@ exram-shown s v o f h =
 -- What it answers, and what a write stores: module 6's own store, and that through the page.
 exram-answer : (m : Mem) (mode o : ℕ) → o < 1024
     → pageAnswer m (pick (ltb mode 2) blank (page ExRam 0 (eqb mode 2))) (0x5C00 + o) ≡ pick (ltb mode 2) Blank (Page (getD (m .exram) o 0))
-unfolding pageAnswer byteAt offsetOf
+unfolding pageAnswer byteAt
 exram-answer m mode o h = split (ltb mode 2) (λ t. rw t) (λ f. rw (f, place o h))
 
 exram-stored : (m : Mem) (mode : ℕ) (lit : Bool) (o n : ℕ) → o < 1024
     → pageStored (memOf (m .prg) (m .chr) (m .ram) (m .ciram) (latched mode lit (0x5C00 + o) n (m .exram)))
     (pick (ltb mode 2) blank (page ExRam 0 (eqb mode 2))) (0x5C00 + o) n .exram
     ≡ pick (ltb mode 2) (set (m .exram) o (pick lit n 0)) (pick (eqb mode 2) (set (m .exram) o n) (m .exram))
-unfolding pageStored storedAt offsetOf latched
+unfolding pageStored storedAt latched
 exram-stored m mode lit o n h =
     let low : 0x5C00 + o - 0x5C00 ≡ o = omega arith in
     split (ltb mode 2)

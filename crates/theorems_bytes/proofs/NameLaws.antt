@@ -13,7 +13,7 @@ use lib.ListN.{length}
 use lib.Pow.{pow-add}
 use Rattle.memory.specs.declared.PageWord.{PageWord}
 use Rattle.memory.specs.Bits.{_>>_}
-use Rattle.memory.specs.Bytes.{Mem, offsetOf, byteAt}
+use Rattle.memory.specs.Bytes.{Mem, byteAt}
 use Rattle.memory.specs.PageWords.{word, wordNumber, pageOf}
 use Rattle.memory.specs.Tests.{pick}
 use Rattle.memory.proofs.Tests.{split, and-false}
@@ -29,6 +29,7 @@ use Rattle.cpu.specs.Writes.{chrPagesAfter, registerWritten}
 use Rattle.cpu.proofs.Addresses.{from, upto}
 use Rattle.ppu.specs.Fetches.{splitSeen}
 use Rattle.ppu.specs.Served.{direct, exOffset, splitByte, splitServes, countedServed, patternServed}
+use Rattle.ppu.proofs.ServedLaws.{counted-is}
 use Rattle.state.specs.declared.State.{State}
 use Rattle.state.specs.declared.gate.Gate.the-variants.{Open}
 use Rattle.state.specs.Gate.{gateMem}
@@ -101,7 +102,7 @@ Shown s m a n =
     pick (nametableUse (s .regs) && eqb n 3) (fillAnswer (s .regs) a) (pageAnswer m (pageOf (namePage n (nametableUse (s .regs)))) a) ≡ selectorByte s m n a
 
 shown : (s : State) (m : Mem) (a n : ℕ) → n < 4 → Shown s m a n
-unfolding namePage wordNumber pageOf pageAnswer byteAt offsetOf
+unfolding namePage wordNumber pageOf pageAnswer byteAt
 shown s m a =
     split (nametableUse (s .regs))
     (λ e. by-four (Shown s m a) (rw (e, zero-add)) (rw e) (rw (e, zero-add)) (rw e))
@@ -129,9 +130,8 @@ fetched : (t : State) (m : Mem) (pages : List PageWord) (v a : ℕ) → gateMem 
     → t .regs .nametables ≡ v → t .«chr_pages» ≡ namesMapped v (nametableUse (t .regs)) pages
     → countedAt a ≡ true → t .vsplit .enabled ≡ false → attributeUse (t .regs) ≡ false → Fetched t a
     → ppuFetch t m a .answer ≡ selectorByte t m (selectorAt v a) a
-unfolding countedServed
 fetched t m pages v a h l n p c off plain f =
-    rw (fetch-counted t m h a f c, split-off t a off, plain, n, p, page-shown pages m v (nametableUse (t .regs)) a l c, ← selector-is v a)
+    rw (fetch-counted t m h a f c, counted-is _ _ _ _ _ _ _, split-off t a off, plain, n, p, page-shown pages m v (nametableUse (t .regs)) a l c, ← selector-is v a)
     (shown t m a (selectorAt v a) (rw selector-is (selector-small v (a / 1024))))
 
 -- What a write to $5105 leaves.

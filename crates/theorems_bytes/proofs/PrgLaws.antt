@@ -14,8 +14,9 @@ use Rattle.memory.specs.declared.Page.{Page}
 use Rattle.memory.specs.declared.PageWord.{PageWord}
 use Rattle.memory.specs.declared.Src.{Src}
 use Rattle.memory.specs.declared.Src.the-variants.{PrgRom, PrgRam}
-use Rattle.memory.specs.Bytes.{Mem, offsetOf, byteAt, storedAt, pageStored}
-use Rattle.memory.specs.PageWords.{word, page, blank, namedAs, pageOf}
+use Rattle.memory.specs.Bytes.{Mem, byteAt, storedAt, pageStored}
+use Rattle.memory.specs.PageWords.{word, page, blank, pageOf}
+use Rattle.memory.specs.Named.{namedAs}
 use Rattle.memory.specs.Tests.{pick}
 use Rattle.memory.specs.Windows.{pageStart, windowPage, windowWord}
 use Rattle.memory.proofs.Tests.{split}
@@ -42,12 +43,12 @@ use Rattle.theorems_bytes.proofs.Behind.{entry-inside, past, past-all, 
 -- Tables -----------------------------------------------------------------------------------------------------------------------------
 
 -- Page i of window w.
-window-entry : (prg ram : ℕ) (free : Bool) (values : List ℕ) (pages : List PageWord) (w i : ℕ) → w < 5 → i < 8 → 64 ≤ length pages
-    → getD (placed pages 24 (pageFrom6000 prg ram free values) 40) (24 + (8 * w + i)) (word 0) ≡ getD (prgValuePages prg ram free (getD values w 0)) i (word 0)
-window-entry prg ram free values pages w i h k e =
+window-entry : (prg ram : ℕ) (writable : Bool) (values : List ℕ) (pages : List PageWord) (w i : ℕ) → w < 5 → i < 8 → 64 ≤ length pages
+    → getD (placed pages 24 (pageFrom6000 prg ram writable values) 40) (24 + (8 * w + i)) (word 0) ≡ getD (prgValuePages prg ram writable (getD values w 0)) i (word 0)
+window-entry prg ram writable values pages w i h k e =
     let window : (8 * w + i) / 8 ≡ w = omega arith in
     let inside : (8 * w + i) % 8 ≡ i = omega arith in
-    entry-inside pages 24 (pageFrom6000 prg ram free values) 40 (8 * w + i) (word 0) (omega arith) (omega (arith, e)) ∙ rw (window, inside)
+    entry-inside pages 24 (pageFrom6000 prg ram writable values) 40 (8 * w + i) (word 0) (omega arith) (omega (arith, e)) ∙ rw (window, inside)
 
 -- An entry of a function's values at the numbers in a row.
 abbrev row : ℕ → ℕ → List ℕ
@@ -90,7 +91,7 @@ ram-named len k w m h = lt-ltb k 64 (omega arith)
 
 -- The page of a window that shows a value.
 unfoldable valuePage : ℕ → ℕ → Bool → ℕ → ℕ → Page
-valuePage prg ram free v i = pick (leb 128 v) (windowPage PrgRom prg 8192 (v % 128) false i) (windowPage PrgRam ram 8192 (v % 8) free i)
+valuePage prg ram writable v i = pick (leb 128 v) (windowPage PrgRom prg 8192 (v % 128) false i) (windowPage PrgRam ram 8192 (v % 8) writable i)
 
 -- The lengths as far as this asks.
 record Sized (prg ram : ℕ) : Type 0 where
@@ -99,20 +100,20 @@ record Sized (prg ram : ℕ) : Type 0 where
   ram-whole : ram % 1024 ≡ 0
   ram-most : ram ≤ 65536
 
-value-page : (prg ram : ℕ) → Sized prg ram → (free : Bool) (v i : ℕ) → i < 8 → pageOf (getD (prgValuePages prg ram free v) i (word 0)) ≡ valuePage prg ram free v i
+value-page : (prg ram : ℕ) → Sized prg ram → (writable : Bool) (v i : ℕ) → i < 8 → pageOf (getD (prgValuePages prg ram writable v) i (word 0)) ≡ valuePage prg ram writable v i
 unfolding prgValuePages valuePage
-value-page prg ram z free v i h =
+value-page prg ram z writable v i h =
     split (leb 128 v)
     (λ t. rw (t, eight-mapped (windowWord PrgRom prg (v % 128) false) i (word 0) h) (named-page PrgRom prg (v % 128) false i (z .prg-whole) (λ k. rom-named prg k (z .prg-most))))
-    (λ t. rw (t, eight-mapped (windowWord PrgRam ram (v % 8) free) i (word 0) h) (named-page PrgRam ram (v % 8) free i (z .ram-whole) (λ k. ram-named ram k free (z .ram-most))))
+    (λ t. rw (t, eight-mapped (windowWord PrgRam ram (v % 8) writable) i (word 0) h) (named-page PrgRam ram (v % 8) writable i (z .ram-whole) (λ k. ram-named ram k writable (z .ram-most))))
 
 -- The page at an address of window w.
-mapped-page : (prg ram : ℕ) → Sized prg ram → (free : Bool) (values : List ℕ) (pages : List PageWord) → length pages ≡ 64 → (w o : ℕ) → w < 5 → o < 8192
-    → pageOf (prgWordAt (placed pages 24 (pageFrom6000 prg ram free values) 40) (inWindow w o)) ≡ valuePage prg ram free (getD values w 0) (o / 1024)
-mapped-page prg ram z free values pages e w o hw ho =
+mapped-page : (prg ram : ℕ) → Sized prg ram → (writable : Bool) (values : List ℕ) (pages : List PageWord) → length pages ≡ 64 → (w o : ℕ) → w < 5 → o < 8192
+    → pageOf (prgWordAt (placed pages 24 (pageFrom6000 prg ram writable values) 40) (inWindow w o)) ≡ valuePage prg ram writable (getD values w 0) (o / 1024)
+mapped-page prg ram z writable values pages e w o hw ho =
     let at : inWindow w o / 1024 ≡ 24 + (8 * w + o / 1024) = omega arith in
-    rw (at, window-entry prg ram free values pages w (o / 1024) hw (omega arith) (omega (arith, e)))
-    (value-page prg ram z free (getD values w 0) (o / 1024) (omega arith))
+    rw (at, window-entry prg ram writable values pages w (o / 1024) hw (omega arith) (omega (arith, e)))
+    (value-page prg ram z writable (getD values w 0) (o / 1024) (omega arith))
 
 -- Bytes ------------------------------------------------------------------------------------------------------------------------------
 
@@ -148,23 +149,23 @@ module _ (m : Mem) (o a : ℕ) (low : a % 1024 ≡ o % 1024) where
       let h : 1 ≤ length buffer = omega (arith, eqb-false (length buffer) 0 t) in
       rw (shown-page s (length buffer) 8192 bank w (o / 1024) h, t, ← window-offset (length buffer) bank o a h e low) (shows (pageStart (length buffer) 8192 bank (o / 1024) / 1024)))
 
-  value-answers : Sized (length (m .prg)) (length (m .ram)) → (free : Bool) (v : ℕ)
-      → pageAnswer m (valuePage (length (m .prg)) (length (m .ram)) free v (o / 1024)) a ≡ valueByte m v o
-  unfolding valuePage pageAnswer byteAt offsetOf
-  value-answers z free v =
+  value-answers : Sized (length (m .prg)) (length (m .ram)) → (writable : Bool) (v : ℕ)
+      → pageAnswer m (valuePage (length (m .prg)) (length (m .ram)) writable v (o / 1024)) a ≡ valueByte m v o
+  unfolding valuePage pageAnswer byteAt
+  value-answers z writable v =
       split (leb 128 v)
       (λ t. rw t (bank-answers PrgRom (m .prg) (v % 128) false (λ _. refl) (z .prg-whole)))
-      (λ t. rw t (bank-answers PrgRam (m .ram) (v % 8) free (λ _. refl) (z .ram-whole)))
+      (λ t. rw t (bank-answers PrgRam (m .ram) (v % 8) writable (λ _. refl) (z .ram-whole)))
 
   -- A store through the page: RAM that is unlocked and not empty takes it, and answers it.
   locked-keeps : (s : Src) (len bank n : ℕ) → pageStored m (windowPage s len 8192 bank false (o / 1024)) a n ≡ m
   unfolding pageStored windowPage
   locked-keeps s len bank n = split (eqb len 0) (λ t. rw t) (λ t. rw t)
 
-  ram-stored : (bank : ℕ) (free : Bool) (n : ℕ) → length (m .ram) % 1024 ≡ 0
-      → let p = windowPage PrgRam (length (m .ram)) 8192 bank free (o / 1024) in
-      pageAnswer (pageStored m p a n) p a ≡ pick (free && leb 1 (length (m .ram))) (FromPage n) (pageAnswer m p a)
-  unfolding pageAnswer pageStored storedAt byteAt offsetOf
+  ram-stored : (bank : ℕ) (writable : Bool) (n : ℕ) → length (m .ram) % 1024 ≡ 0
+      → let p = windowPage PrgRam (length (m .ram)) 8192 bank writable (o / 1024) in
+      pageAnswer (pageStored m p a n) p a ≡ pick (writable && leb 1 (length (m .ram))) (FromPage n) (pageAnswer m p a)
+  unfolding pageAnswer pageStored storedAt byteAt
   ram-stored bank false n e = rw (locked-keeps PrgRam (length (m .ram)) bank n)
   ram-stored bank true n e =
       let len = length (m .ram) in
@@ -176,14 +177,14 @@ module _ (m : Mem) (o a : ℕ) (low : a % 1024 ≡ o % 1024) where
       rw (shown-page PrgRam len 8192 bank true (o / 1024) h, le-leb 1 len h)
       (ap FromPage (getD-set-same (m .ram) (pageStart len 8192 bank (o / 1024) / 1024 * 1024 + a % 1024) n 0 (omega arith))))
 
-  value-stored : Sized (length (m .prg)) (length (m .ram)) → (free : Bool) (v n : ℕ)
-      → let p = valuePage (length (m .prg)) (length (m .ram)) free v (o / 1024) in
-      pageAnswer (pageStored m p a n) p a ≡ pick (not (leb 128 v) && (free && leb 1 (length (m .ram)))) (FromPage n) (pageAnswer m p a)
+  value-stored : Sized (length (m .prg)) (length (m .ram)) → (writable : Bool) (v n : ℕ)
+      → let p = valuePage (length (m .prg)) (length (m .ram)) writable v (o / 1024) in
+      pageAnswer (pageStored m p a n) p a ≡ pick (not (leb 128 v) && (writable && leb 1 (length (m .ram)))) (FromPage n) (pageAnswer m p a)
   unfolding valuePage
-  value-stored z free v n =
+  value-stored z writable v n =
       split (leb 128 v)
       (λ t. rw (t, locked-keeps PrgRom (length (m .prg)) (v % 128) n))
-      (λ t. rw t (ram-stored (v % 8) free n (z .ram-whole)))
+      (λ t. rw t (ram-stored (v % 8) writable n (z .ram-whole)))
 
 -- Calls ------------------------------------------------------------------------------------------------------------------------------
 

@@ -8,7 +8,7 @@ use Rattle.memory.specs.Bytes.{Mem}
 use Rattle.memory.specs.Tests.{pick}
 use Rattle.registers.specs.Registers.{attributeUse}
 use Rattle.scanline.specs.Tiles.{spriteFetch}
-use Rattle.banks.specs.Chr.{background}
+use Rattle.banks.specs.Chr.{Asked, background}
 use Rattle.cpu.specs.Writes.{mapsChr}
 use Rattle.ppu.specs.Served.{splitServes}
 use Rattle.state.specs.declared.State.{State}
@@ -18,7 +18,7 @@ use Rattle.theorems_bytes.specs.Taken.{Taken, fetchAt, byteOf}
 -- Module 5: "Set: sprite if 8x8, or tile count 32-39, or out of frame with the last CHR write a sprite one; else background": the set that a pattern
 -- fetch chooses. With 8x8 sprites the last write counts as one to the sprites'.
 abbrev pub setWanted : State → Bool
-setWanted s = background (s .ppu .sprite8x16) (spriteFetch (s .ppu .«tile_number»)) (s .irq .«in_frame») (s .ppu .«bg_written»)
+setWanted s = background (record { tall = s .ppu .sprite8x16; fetching-sprites = spriteFetch (s .ppu .«tile_number»); framed = s .irq .«in_frame»; written-to-background = s .ppu .«bg_written» })
 
 -- "Page = ((bank OR hi) << shift) + place in window; shifts 3, 2, 1, 0" in modes 0 to 3: the page at place k, of the eight. Which register a window of n
 -- places has, 01 does not say: it is the Rust's `update_chr_banks`, that of its last place, from 0 on the sprites', from 8 on the background's.

@@ -7,7 +7,7 @@ use mathlib.Core.Path.{_≡_, refl, _∙_}
 use native.Mathlib.Omega.{arith}
 use borrow.Author.Tests.{eqb-true}
 use lib.Dec.{eqb}
-use Rattle.memory.specs.Bytes.{Mem, offsetOf, byteAt, storedAt, pageStored}
+use Rattle.memory.specs.Bytes.{Mem, byteAt, storedAt, pageStored}
 use Rattle.memory.specs.Tests.{all}
 use Rattle.memory.specs.Tables.{prgMayHoldAs, chrMayHoldAs}
 use Rattle.memory.specs.PageWords.{wordNumber, pageOf}
@@ -42,7 +42,7 @@ use Rattle.board.specs.CpuSide.{cpuRead, cpuWrite}
 use Rattle.board.specs.StateCalls.{clockCall, ppuRegisterCall}
 use Rattle.board_ppu.specs.Fetch.{countedCall, ppuFetch}
 use Rattle.board_ppu.specs.Peeks.{chrAnswer}
-use Rattle.theorems_scanlines.specs.Promise.Played.{at-load, taken}
+use Rattle.theorems_scanlines.specs.Calls.Played.{at-load, taken}
 use Rattle.theorems_promises.specs.Loading.{goodPrg, goodChr, goodRam}
 use Rattle.theorems_promises.proofs.Loadings.{load-refusals}
 use Rattle.theorems_histories.specs.Boards.{Board, Made, says, leaves, boardAfter, number, numberIn}
@@ -56,7 +56,7 @@ abbrev all-some : List ℕ → List (Option ℕ)
 all-some l = map some l
 
 come : (map comes edges ≡ all-some (159 ∷ 1 ∷ 254 ∷ 1 ∷ 64 ∷ 64 ∷ 64 ∷ 192 ∷ 64 ∷ 64 ∷ 0 ∷ 0 ∷ 9 ∷ 6 ∷ 6 ∷ 959 ∷ 928 ∷ [])) × (map comes shutOut ≡ all-some (1 ∷ 254 ∷ 7 ∷ 7 ∷ 63 ∷ 5 ∷ 192 ∷ 64 ∷ 192 ∷ []))
-unfolding nextTile tilesOk spriteFetch isFirst isPrefetched columnOf lineRefused counterRefused detectorOk tick again matchesAfter isLine meets seenAt offsetOf byteAt storedAt pageStored all prgMayHoldAs chrMayHoldAs wordNumber pageOf pageStart windowPage written regsOk placed prgValues prgValuePages exramPage windowPages chrNumber chrMapped selector namePage namesMapped sameLengths gateOf lengthsOk inRange sideAt regionAt splitAddress afterName chosen ppuAfter splitAfter irqAfter prgBanksAfter chrBanksAfter pageAnswer registerAt registerRead irqRead cpuAnswer prgPagesAfter chrPagesAfter registerWritten latched cpuStored cacheAfter countedServed loadedState loadCall cpuRead cpuWrite clockCall statusAfter detectorAfter ppuRegisterCall countedCall ppuFetch chrAnswer says leaves number comes boardAfter loadAccepted accepted onto seen inTurn
+unfolding nextTile tilesOk spriteFetch isFirst isPrefetched columnOf lineRefused counterRefused detectorOk tick again matchesAfter isLine meets seenAt byteAt storedAt pageStored all prgMayHoldAs chrMayHoldAs wordNumber pageOf pageStart windowPage written regsOk placed prgValues prgValuePages exramPage windowPages chrNumber chrMapped selector namePage namesMapped sameLengths gateOf lengthsOk inRange sideAt regionAt splitAddress afterName chosen ppuAfter splitAfter irqAfter prgBanksAfter chrBanksAfter pageAnswer registerAt registerRead irqRead cpuAnswer prgPagesAfter chrPagesAfter registerWritten latched cpuStored cacheAfter countedServed loadedState loadCall cpuRead cpuWrite clockCall statusAfter detectorAfter ppuRegisterCall countedCall ppuFetch chrAnswer says leaves number comes boardAfter loadAccepted accepted onto seen inTurn
 come = (refl, refl)
 
 -- These are the values that are asked for.

@@ -1,6 +1,6 @@
 -- The worked replay, by computation.
 use mathlib.Core.Path.{refl}
-use Rattle.memory.specs.Bytes.{offsetOf, byteAt, storedAt, pageStored}
+use Rattle.memory.specs.Bytes.{byteAt, storedAt, pageStored}
 use Rattle.memory.specs.Tests.{all}
 use Rattle.memory.specs.Tables.{prgMayHoldAs, chrMayHoldAs}
 use Rattle.memory.specs.PageWords.{wordNumber, pageOf}
@@ -37,7 +37,7 @@ use Rattle.player.specs.Replay.{playedFrom, replayed}
 use Rattle.theorems_cases.specs.WorkedReplay.{WorkedReplay}
 
 pub worked-replay : WorkedReplay
-unfolding nextTile tilesOk spriteFetch isFirst isPrefetched columnOf lineRefused counterRefused detectorOk tick again matchesAfter isLine meets seenAt offsetOf byteAt storedAt pageStored all prgMayHoldAs chrMayHoldAs wordNumber pageOf pageStart windowPage written regsOk placed prgValues prgValuePages exramPage windowPages chrNumber chrMapped selector namePage namesMapped sameLengths gateOf lengthsOk inRange chosen ppuAfter splitAfter irqAfter prgBanksAfter chrBanksAfter pageAnswer registerAt registerRead irqRead cpuAnswer prgPagesAfter chrPagesAfter registerWritten latched cpuStored cacheAfter countedServed loadedState loadCall cpuRead cpuWrite clockCall statusAfter detectorAfter ppuRegisterCall countedCall ppuFetch chrAnswer countedPages cartridge grouped numeral limited numbered filled recordAt logged playedFrom replayed
+unfolding nextTile tilesOk spriteFetch isFirst isPrefetched columnOf lineRefused counterRefused detectorOk tick again matchesAfter isLine meets seenAt byteAt storedAt pageStored all prgMayHoldAs chrMayHoldAs wordNumber pageOf pageStart windowPage written regsOk placed prgValues prgValuePages exramPage windowPages chrNumber chrMapped selector namePage namesMapped sameLengths gateOf lengthsOk inRange chosen ppuAfter splitAfter irqAfter prgBanksAfter chrBanksAfter pageAnswer registerAt registerRead irqRead cpuAnswer prgPagesAfter chrPagesAfter registerWritten latched cpuStored cacheAfter countedServed loadedState loadCall cpuRead cpuWrite clockCall statusAfter detectorAfter ppuRegisterCall countedCall ppuFetch chrAnswer countedPages cartridge grouped numeral limited numbered filled recordAt logged playedFrom replayed
 worked-replay = record {
   loads = refl;
   ending = refl;

@@ -25,13 +25,14 @@ use Rattle.board_ppu.specs.Fetch.{patternCall}
 use Rattle.trace.specs.declared.Call.{Call}
 use Rattle.trace.specs.declared.Call.the-variants.{Clock, CpuRead, CpuWrite, PpuRegister, PpuFetch, Reset, PpuWrite}
 use Rattle.theorems_scanlines.specs.Machine.{Watched, watched, tilesBy}
-use Rattle.theorems_scanlines.specs.Promise.{historyOf}
-use Rattle.theorems_scanlines.specs.Promise.Played.{at-load, taken}
+use Rattle.theorems_scanlines.specs.Calls.{historyOf}
+use Rattle.theorems_scanlines.specs.Calls.Played.{at-load, taken}
 use Rattle.theorems_scanlines.proofs.Transfer.{run-is}
 use Rattle.theorems_histories.specs.Accepted.{refusal}
 use Rattle.theorems_histories.specs.Boards.{Board, Made, says, leaves, number}
 use Rattle.theorems_histories.specs.Boards.Made.{call, peek, ppu-peek, sprite-peek, mirroring-asked, interrupt-asked, cpu-page, ppu-page}
-use Rattle.theorems_histories.specs.Histories.{Load, first, Reached, view, event}
+use Rattle.theorems_histories.specs.Histories.{Load, first, Reached}
+use Rattle.theorems_histories.specs.Watching.{view, event}
 use Rattle.theorems_histories.proofs.Along.{open-along, at-first, told-along}
 use Rattle.theorems_histories.proofs.Behind.{exactly}
 use Rattle.theorems_folds.specs.Full.{keptState, keptBoard, fullSeen, fullCounted, fullCalled, fullSays, fullLeaves, fullAfter}

@@ -43,7 +43,7 @@ use Rattle.theorems_histories.specs.Accepted.{refusal}
 use Rattle.theorems_histories.specs.Boards.{Board, Made, says, leaves}
 use Rattle.theorems_histories.specs.Boards.Made.{call, peek, ppu-peek, sprite-peek, mirroring-asked, interrupt-asked, cpu-page, ppu-page}
 use Rattle.theorems_histories.specs.Boards.Said.{answers}
-use Rattle.theorems_histories.specs.Histories.{view}
+use Rattle.theorems_histories.specs.Watching.{view}
 use Rattle.theorems_histories.proofs.Behind.{fetched, done, unmet, is-done}
 use Rattle.theorems_folds.specs.Full.{keptStatus, keptState, keptBoard, fullSeen, fullCounted, fullFetch, fullCalled, fullPeek, fullSays, fullLeaves}
 use Rattle.theorems_folds.specs.Same.{SameBoard}

@@ -14,11 +14,13 @@ use Rattle.cpu.specs.Groups.{splitAfter, irqAfter}
 use Rattle.cpu.specs.Writes.{registerWritten}
 use Rattle.ppu.specs.Fetches.{splitSeen}
 use Rattle.board.specs.Loads.{loadedState, loadCall}
-use Rattle.theorems_scanlines.specs.Machine.{step, run, tilesBy, watched}
-use Rattle.theorems_scanlines.specs.Promise.{historyOf}
+use Rattle.theorems_scanlines.specs.Machine.{tilesBy, watched}
+use Rattle.theorems_scanlines.specs.Run.{step, run}
+use Rattle.theorems_scanlines.specs.Calls.{historyOf}
 use Rattle.theorems_histories.specs.Accepted.{refusal, acceptable}
 use Rattle.theorems_histories.specs.Boards.{Board}
-use Rattle.theorems_histories.specs.Histories.{Load, first, event}
+use Rattle.theorems_histories.specs.Histories.{Load, first}
+use Rattle.theorems_histories.specs.Watching.{event}
 use Rattle.theorems_histories.specs.Shorthand.{inTurn}
 use Rattle.theorems_histories.specs.Waits.{smallest}
 use Rattle.theorems_histories.proofs.Along.{are-reached}

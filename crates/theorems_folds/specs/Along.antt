@@ -5,9 +5,10 @@ use mathlib.Core.List.{List}
 use mathlib.Core.Path.{_≡_}
 use Rattle.scanline.specs.Tiles.{fold, columnOf}
 use Rattle.theorems_scanlines.specs.Machine.{watched}
-use Rattle.theorems_scanlines.specs.Promise.{historyOf}
+use Rattle.theorems_scanlines.specs.Calls.{historyOf}
 use Rattle.theorems_histories.specs.Boards.{Board, Made, says, number}
-use Rattle.theorems_histories.specs.Histories.{Load, first, Reached, view, event}
+use Rattle.theorems_histories.specs.Histories.{Load, first, Reached}
+use Rattle.theorems_histories.specs.Watching.{view, event}
 use Rattle.theorems_folds.specs.Full.{keptBoard, fullSays, fullAfter}
 
 pub record AlongFull : Type 0 where

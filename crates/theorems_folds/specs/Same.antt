@@ -20,7 +20,7 @@ use Rattle.ppu.specs.Fetches.{ppuSeen, splitSeen}
 use Rattle.ppu.specs.Served.{countedServed, patternServed}
 use Rattle.theorems_histories.specs.Accepted.{refusal}
 use Rattle.theorems_histories.specs.Boards.{Board, Made, says, leaves}
-use Rattle.theorems_histories.specs.Histories.{view}
+use Rattle.theorems_histories.specs.Watching.{view}
 use Rattle.theorems_folds.specs.Full.{keptStatus, keptState, keptBoard, fullSeen, fullSays, fullLeaves}
 
 pub record SameBoard : Type 0 where

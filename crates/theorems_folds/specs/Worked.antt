@@ -7,9 +7,10 @@ use mathlib.Core.Bool.{true}
 use mathlib.Core.List.{List, [], _∷_, _++_}
 use mathlib.Core.Path.{_≡_}
 use Rattle.theorems_scanlines.specs.Machine.{watched}
-use Rattle.theorems_scanlines.specs.Promise.{historyOf}
+use Rattle.theorems_scanlines.specs.Calls.{historyOf}
 use Rattle.theorems_histories.specs.Boards.{Board, Made}
-use Rattle.theorems_histories.specs.Histories.{Load, first, Reached, event}
+use Rattle.theorems_histories.specs.Histories.{Load, first, Reached}
+use Rattle.theorems_histories.specs.Watching.{event}
 use Rattle.theorems_histories.specs.Shorthand.{write, fetch, inTurn}
 use Rattle.theorems_histories.specs.Waits.{smallest}
 use Rattle.theorems_folds.specs.Full.{fullAfter}

@@ -16,9 +16,9 @@ use Rattle.state.specs.Lengths.{prgTaken, chrTaken, ramTaken}
 use Rattle.board.specs.declared.Outcome.{Outcome}
 use Rattle.board.specs.Loads.{zeroState, recorded, loadCall, loadedState}
 use Rattle.trace.specs.declared.Call.the-variants.{Clock, CpuRead, CpuWrite, PpuRegister, PpuFetch, Reset, PpuWrite}
-use Rattle.theorems_scanlines.specs.Machine.{run}
-use Rattle.theorems_scanlines.specs.Promise.{historyOf}
-use Rattle.theorems_scanlines.specs.Promise.Played.{at-load, taken}
+use Rattle.theorems_scanlines.specs.Run.{run}
+use Rattle.theorems_scanlines.specs.Calls.{historyOf}
+use Rattle.theorems_scanlines.specs.Calls.Played.{at-load, taken}
 use Rattle.theorems_scanlines.proofs.Transfer.{seen}
 use Rattle.theorems_promises.proofs.Promised.{gate-stays-open}
 use Rattle.theorems_promises.proofs.Addresses.{address-stays}
@@ -26,7 +26,8 @@ use Rattle.theorems_promises.proofs.Gates.{in-range-of}
 use Rattle.player.proofs.Steps.{call-open}
 use Rattle.theorems_histories.specs.Boards.{Board, Made, says, leaves, number}
 use Rattle.theorems_histories.specs.Boards.Made.{call, peek, ppu-peek, sprite-peek, mirroring-asked, interrupt-asked, cpu-page, ppu-page}
-use Rattle.theorems_histories.specs.Histories.{Load, first, Takes, Leads, Reached, view, event}
+use Rattle.theorems_histories.specs.Histories.{Load, first, Takes, Leads, Reached}
+use Rattle.theorems_histories.specs.Watching.{view, event}
 use Rattle.theorems_histories.specs.Accepted.{refusal, acceptable, Along}
 use Rattle.theorems_histories.proofs.Behind.{exactly}
 use Rattle.theorems_histories.proofs.Following.{follows}

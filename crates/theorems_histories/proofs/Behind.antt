@@ -45,7 +45,7 @@ use Rattle.theorems_histories.specs.Boards.{Board, Made, says, number, n
 use Rattle.theorems_histories.specs.Boards.Made.{call, peek, ppu-peek, sprite-peek, mirroring-asked, interrupt-asked, cpu-page, ppu-page}
 use Rattle.theorems_histories.specs.Boards.Said.{interrupts}
 use Rattle.theorems_histories.specs.Done.{doneWith}
-use Rattle.theorems_histories.specs.Histories.{view}
+use Rattle.theorems_histories.specs.Watching.{view}
 use Rattle.theorems_histories.specs.Accepted.{refusal}
 
 -- A call that is not refused.

@@ -28,11 +28,10 @@ use Rattle.trace.specs.declared.Call.{Call}
 use Rattle.trace.specs.declared.Call.the-variants.{Clock, CpuRead, CpuWrite, PpuRegister, PpuFetch, Reset, PpuWrite}
 use Rattle.calls.specs.Called.{called}
 use Rattle.calls.specs.Lent.{MemoryThen}
-use Rattle.theorems_histories.specs.Boards.{Board, Made, says, leaves}
+use Rattle.theorems_histories.specs.Boards.{Board, Made, says, leaves, lentAsRecorded}
 use Rattle.theorems_histories.specs.Boards.Made.{call, peek, ppu-peek, sprite-peek, mirroring-asked, interrupt-asked, cpu-page, ppu-page}
 use Rattle.theorems_histories.specs.Code.{Step, board, gives, looks, Allowed, Happens, meant, CodeIsTheBoard, EveryCallTakesAll}
 use Rattle.theorems_histories.specs.Code.Happens.{any, clocks, reads, writes, registers, fetches, resets, stores, peeks, ppu-peeks, sprite-peeks, mirrorings, interrupts-up, cpu-pages, ppu-pages}
-use Rattle.theorems_histories.specs.Refusals.{lentAsRecorded}
 
 -- What holds of all that a contract allows holds of a step that it allows.
 seen-is : {K : Type 0} {A R E : K → Type 0} {allows : (κ : K) → A κ → R κ → E κ → Type 0} {seen : (κ : K) → A κ → R κ → E κ → Step} {t : Step} (P : Step → Type 0)

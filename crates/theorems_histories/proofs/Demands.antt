@@ -17,16 +17,18 @@ use Rattle.board.specs.declared.InterruptAnswer.{InterruptAnswer}
 use Rattle.board.specs.declared.InterruptAnswer.the-variants.{Up, Down, Refused as InterruptRefused}
 use Rattle.board.specs.CpuSide.{cpuRead}
 use Rattle.board.specs.StateCalls.{interruptCall}
-use Rattle.theorems_scanlines.specs.Told.{History, toldStatus, Up as ToldUp}
-use Rattle.theorems_scanlines.specs.Machine.{run}
-use Rattle.theorems_scanlines.specs.Promise.{historyOf}
+use Rattle.theorems_scanlines.specs.Told.{toldStatus, Up as ToldUp}
+use Rattle.theorems_scanlines.specs.Calls.{History}
+use Rattle.theorems_scanlines.specs.Run.{run}
+use Rattle.theorems_scanlines.specs.Calls.{historyOf}
 use Rattle.theorems_scanlines.proofs.Agree.{agrees}
 use Rattle.theorems_scanlines.proofs.Flag.{flag-is}
 use Rattle.theorems_scanlines.proofs.Transfer.{any-machine}
 use Rattle.theorems_promises.proofs.Gates.{in-range-of}
 use Rattle.theorems_promises.proofs.Promised.{who-is-refused}
 use Rattle.theorems_histories.specs.Boards.{Board, Made}
-use Rattle.theorems_histories.specs.Histories.{Load, first, Takes, Reached, view, event}
+use Rattle.theorems_histories.specs.Histories.{Load, first, Takes, Reached}
+use Rattle.theorems_histories.specs.Watching.{view, event}
 use Rattle.theorems_histories.specs.Interrupts.{BoardDemand3, Asked}
 use Rattle.theorems_histories.proofs.Along.{open-along, starts, told-along}
 use Rattle.theorems_histories.proofs.Following.{follows}

@@ -16,11 +16,12 @@ use Rattle.board.specs.Outcomes.{After}
 use Rattle.board_ppu.specs.Fetch.{countedCall, patternCall}
 use Rattle.trace.specs.declared.Call.{Call}
 use Rattle.trace.specs.declared.Call.the-variants.{Clock, CpuRead, CpuWrite, PpuRegister, PpuFetch, Reset, PpuWrite}
-use Rattle.theorems_scanlines.specs.Events.Event.{cpuRead, cpuWrite}
-use Rattle.theorems_scanlines.specs.Machine.{step}
+use Rattle.theorems_scanlines.specs.Calls.Event.{cpuRead, cpuWrite}
+use Rattle.theorems_scanlines.specs.Run.{step}
 use Rattle.theorems_histories.specs.Boards.{Board, Made, says, leaves, number}
 use Rattle.theorems_histories.specs.Boards.Made.{call, peek, ppu-peek, sprite-peek, mirroring-asked, interrupt-asked, cpu-page, ppu-page}
-use Rattle.theorems_histories.specs.Histories.{Takes, view, event}
+use Rattle.theorems_histories.specs.Histories.{Takes}
+use Rattle.theorems_histories.specs.Watching.{view, event}
 use Rattle.theorems_histories.proofs.Behind.{done, accepted-passes}
 
 -- a read: the vectors are not $5204

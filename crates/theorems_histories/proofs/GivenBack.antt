@@ -21,11 +21,11 @@ use Rattle.board.specs.StateCalls.{mirroringCall, interruptCall}
 use Rattle.trace.specs.declared.Call.the-variants.{Clock, CpuRead, CpuWrite, PpuRegister, PpuFetch, Reset, PpuWrite}
 use Rattle.calls.specs.Called.{called}
 use Rattle.theorems_promises.proofs.Promised.{who-is-refused}
-use Rattle.theorems_histories.specs.Boards.{Board, Made, says, leaves, number, numberIn}
+use Rattle.theorems_histories.specs.Boards.{Board, Made, says, leaves, number, numberIn, lentAsRecorded}
 use Rattle.theorems_histories.specs.Boards.Made.{call, peek, ppu-peek, sprite-peek, mirroring-asked, interrupt-asked, cpu-page, ppu-page}
-use Rattle.theorems_histories.specs.Histories.{view}
+use Rattle.theorems_histories.specs.Watching.{view}
 use Rattle.theorems_histories.specs.Accepted.{refusal}
-use Rattle.theorems_histories.specs.Refusals.{lentAsRecorded, overBuffers, alone, given, Refusals}
+use Rattle.theorems_histories.specs.Refusals.{overBuffers, alone, given, Refusals}
 use Rattle.theorems_histories.proofs.Behind.{gate-case, exactly, told, shut-refuses, says-shut}
 
 abbrev Opened : Board → Type 0

@@ -2,7 +2,7 @@
 use mathlib.Core.Bool.{true}
 use mathlib.Core.List.{List, _∷_}
 use mathlib.Core.Path.{_≡_, refl, sym, _∙_, ap}
-use Rattle.theorems_scanlines.specs.Promise.Played.{at-load, taken}
+use Rattle.theorems_scanlines.specs.Calls.Played.{at-load, taken}
 use Rattle.theorems_histories.specs.Boards.{Board, Made, Said, says, leaves, boardAfter, number}
 use Rattle.theorems_histories.specs.Histories.{Load, first, Reached}
 use Rattle.theorems_histories.specs.Accepted.{acceptable}

@@ -25,7 +25,7 @@ use Rattle.trace.specs.declared.Call.the-variants.{Clock, CpuRead, CpuWrite, Pp
 use Rattle.trace.specs.declared.Found.the-variants.{End, Record, Refused as Unreadable}
 use Rattle.trace.specs.Records.{recordAt}
 use Rattle.trace.proofs.RecordLaws.{none-read, record-advances, record-refused}
-use Rattle.theorems_scanlines.specs.Promise.Played.{at-load, taken}
+use Rattle.theorems_scanlines.specs.Calls.Played.{at-load, taken}
 use Rattle.player.specs.declared.Ending.the-variants.{Stopped}
 use Rattle.logs.specs.Logs.{logged}
 use Rattle.player.specs.Replay.{Left, ended, playedFrom, played, replayed}
@@ -33,7 +33,8 @@ use Rattle.player.proofs.Ways.{by-found}
 use Rattle.theorems_histories.specs.Boards.{Board, Made, says, leaves, boardAfter, number, numberIn}
 use Rattle.theorems_histories.specs.Boards.Made.{call}
 use Rattle.theorems_histories.specs.Boards.Said.{answers}
-use Rattle.theorems_histories.specs.Histories.{Load, Leads, Reached, view}
+use Rattle.theorems_histories.specs.Histories.{Load, Leads, Reached}
+use Rattle.theorems_histories.specs.Watching.{view}
 use Rattle.theorems_histories.specs.Accepted.{refusal}
 use Rattle.theorems_histories.specs.Replays.{recordsTo, endOf, playedCalls, Records, Ends, answerAt, logAlong, boardIn, Plays, replayOf}
 use Rattle.theorems_histories.specs.Replays.Records.{none, one-more}

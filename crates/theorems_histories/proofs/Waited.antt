@@ -8,8 +8,8 @@ use Rattle.scanline.specs.Ranges.{lineRefused, counterRefused}
 use Rattle.scanline.specs.Clock.{tick}
 use Rattle.scanline.specs.Steps.{again, matchesAfter, isLine, meets, seenAt}
 use Rattle.board.specs.Loads.{loadCall}
-use Rattle.theorems_scanlines.specs.Machine.{step, run}
-use Rattle.theorems_scanlines.specs.Promise.{historyOf}
+use Rattle.theorems_scanlines.specs.Run.{step, run}
+use Rattle.theorems_scanlines.specs.Calls.{historyOf}
 use Rattle.theorems_scanlines.proofs.Worked.{worked}
 use Rattle.theorems_histories.specs.Histories.{Load}
 use Rattle.theorems_histories.specs.Accepted.{refusal, acceptable}

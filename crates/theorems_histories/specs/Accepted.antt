@@ -16,11 +16,12 @@ use Rattle.state.specs.Gate.{gateMem}
 use Rattle.cpu.specs.Reads.{audioRead}
 use Rattle.cpu.specs.Writes.{audioWrite}
 use Rattle.trace.specs.declared.Call.the-variants.{Clock, CpuRead, CpuWrite, PpuRegister, PpuFetch, Reset, PpuWrite}
-use Rattle.theorems_scanlines.specs.Machine.{run}
-use Rattle.theorems_scanlines.specs.Promise.{historyOf}
+use Rattle.theorems_scanlines.specs.Run.{run}
+use Rattle.theorems_scanlines.specs.Calls.{historyOf}
 use Rattle.theorems_histories.specs.Boards.{Board, Made, says, number}
 use Rattle.theorems_histories.specs.Boards.Made.{call, peek, ppu-peek, sprite-peek, mirroring-asked, interrupt-asked, cpu-page, ppu-page}
-use Rattle.theorems_histories.specs.Histories.{Load, Reached, view, event}
+use Rattle.theorems_histories.specs.Histories.{Load, Reached}
+use Rattle.theorems_histories.specs.Watching.{view, event}
 
 -- The refusal that a call meets along a history, 0 where it meets none. 6: "CPU read or peek of $5010, $5015; CPU write of $5000, $5002-$5004,
 -- $5006, $5007, $5010, $5011, $5015"; 7: "a fetch at $2000-$3EFF would need .. a line counter above 65,279"; CR 7: "7 is then given for the line

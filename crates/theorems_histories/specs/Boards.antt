@@ -2,7 +2,9 @@
 -- stated over demand 2's calls: each takes the state and the memories as the call before it left them."
 -- Assumes nothing.
 use Prim.Native.Nat.{ℕ}
+use mathlib.Core.Bool.{Bool}
 use mathlib.Core.List.{List, [], _∷_}
+use lib.ListN.{length}
 use Rattle.memory.specs.declared.CpuAddr.{CpuAddr}
 use Rattle.memory.specs.declared.PpuAddr.{PpuAddr}
 use Rattle.memory.specs.Bytes.{Mem}
@@ -10,6 +12,7 @@ use Rattle.answers.specs.declared.Answer.{Answer}
 use Rattle.answers.specs.Numbers.{numberOf}
 use Rattle.answers.specs.Refused.{ifRefused}
 use Rattle.state.specs.declared.State.{State}
+use Rattle.state.specs.Gate.{sameLengths}
 use Rattle.board.specs.declared.InterruptAnswer.{InterruptAnswer}
 use Rattle.board.specs.declared.InterruptAnswer.the-variants as interrupt
 use Rattle.board.specs.declared.MirroringAnswer.{MirroringAnswer}
@@ -84,3 +87,8 @@ number (interrupts interrupt.Up) = 0
 number (interrupts interrupt.Down) = 0
 number (interrupts (interrupt.Refused r)) = numberOf r
 number (shows l) = 0
+
+-- "a lent length differs from the one recorded at load"
+abbrev pub lentAsRecorded : Board → Bool
+lentAsRecorded b =
+    sameLengths (b .state .lengths) (length (b .mem .prg)) (length (b .mem .chr)) (length (b .mem .ram)) (length (b .mem .ciram)) (length (b .mem .exram))

@@ -29,10 +29,9 @@ use Rattle.trace.proofs.records.record_at.Reads as trace-record-at
 use Rattle.calls.specs.Lent.{memLent, behindMemory, memLeft}
 use Rattle.calls.proofs.call_on.Reads as calls-call-on
 use Rattle.player.proofs.replay.Reads as player-replay
-use Rattle.theorems_histories.specs.Boards.{Board, Made, Said, says, leaves}
+use Rattle.theorems_histories.specs.Boards.{Board, Made, Said, says, leaves, lentAsRecorded}
 use Rattle.theorems_histories.specs.Boards.Made.{call, peek, ppu-peek, sprite-peek, mirroring-asked, interrupt-asked, cpu-page, ppu-page}
 use Rattle.theorems_histories.specs.Boards.Said.{answers, mirrors, interrupts, shows}
-use Rattle.theorems_histories.specs.Refusals.{lentAsRecorded}
 
 -- A call that was made: on which board, which call, what it said, and the board that it left.
 pub record Step : Type 0 where

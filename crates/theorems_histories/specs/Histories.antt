@@ -9,9 +9,9 @@ use Rattle.registers.specs.declared.Mirroring.{Mirroring}
 use Rattle.scanline.specs.declared.Detector.{Detector}
 use Rattle.board.specs.Loads.{loadCall}
 use Rattle.trace.specs.declared.Call.the-variants.{Clock, CpuRead, CpuWrite, PpuRegister, PpuFetch, Reset, PpuWrite}
-use Rattle.theorems_scanlines.specs.Events.{Event}
-use Rattle.theorems_scanlines.specs.Events.Event.{clock, fetch, cpuRead, cpuWrite, ppuRegister, other}
-use Rattle.theorems_scanlines.specs.Promise.{Played}
+use Rattle.theorems_scanlines.specs.Calls.{Event}
+use Rattle.theorems_scanlines.specs.Calls.Event.{clock, fetch, cpuRead, cpuWrite, ppuRegister, other}
+use Rattle.theorems_scanlines.specs.Calls.{Played}
 use Rattle.theorems_histories.specs.Boards.{Board, Made, says, leaves, number}
 use Rattle.theorems_histories.specs.Boards.Made.{call, peek, ppu-peek, sprite-peek, mirroring-asked, interrupt-asked, cpu-page, ppu-page}
 
@@ -40,23 +40,3 @@ Leads a cs b = Played Board Made a Takes cs b
 -- The same from a load on: a history.
 abbrev pub Reached : Load → List Made → Board → Type 0
 Reached l cs b = Leads (first l) cs b
-
--- Where the scanline detector lies in a board, and what it can tell of a call: demand 3 speaks of these alone (crate `theorems_scanlines`).
-abbrev pub view : Board → Detector
-view b = b .state .irq
-
-abbrev pub event : Made → Event
-event (call Clock) = clock
-event (call (CpuRead a)) = cpuRead (a .0)
-event (call (CpuWrite a v)) = cpuWrite (a .0) v
-event (call (PpuRegister a v)) = ppuRegister (a .0) v
-event (call (PpuFetch a)) = fetch (a .0)
-event (call Reset) = other
-event (call (PpuWrite a v)) = other
-event (peek a) = other
-event (ppu-peek a) = other
-event (sprite-peek a) = other
-event mirroring-asked = other
-event interrupt-asked = other
-event (cpu-page a) = other
-event (ppu-page a) = other

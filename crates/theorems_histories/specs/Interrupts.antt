@@ -11,9 +11,11 @@ use Rattle.board.specs.declared.InterruptAnswer.the-variants.{Up, Down}
 use Rattle.board.specs.CpuSide.{cpuRead, cpuPeek}
 use Rattle.board.specs.StateCalls.{interruptCall}
 use Rattle.theorems_scanlines.specs.Told.{lineAt, Waiting, newLines, calm, toldStatus, Up as ToldUp}
-use Rattle.theorems_scanlines.specs.Promise.{historyOf, Demand3}
+use Rattle.theorems_scanlines.specs.Promise.{Demand3}
+use Rattle.theorems_scanlines.specs.Calls.{historyOf}
 use Rattle.theorems_histories.specs.Boards.{Board, Made}
-use Rattle.theorems_histories.specs.Histories.{Load, first, Takes, Reached, view, event}
+use Rattle.theorems_histories.specs.Histories.{Load, first, Takes, Reached}
+use Rattle.theorems_histories.specs.Watching.{view, event}
 
 -- flag, interrupt, in frame, line number, the stored bit, and the wait: "the game is served at the (n - s)th next line and no sooner"
 abbrev pub BoardDemand3 : Type 0

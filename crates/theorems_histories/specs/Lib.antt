@@ -1,4 +1,5 @@
 pub mod Boards
+pub mod Watching
 pub mod Done
 pub mod Code
 pub mod Shorthand

@@ -6,17 +6,11 @@ use mathlib.Core.Path.{_≡_}
 use mathlib.Core.Bool.{Bool, not}
 use lib.ListN.{length}
 use Rattle.memory.specs.Tests.{pick}
-use Rattle.state.specs.Gate.{sameLengths}
 use Rattle.state.specs.Ranges.{inRange}
-use Rattle.theorems_histories.specs.Boards.{Board, Made, says, leaves, number}
+use Rattle.theorems_histories.specs.Boards.{lentAsRecorded, Board, Made, says, leaves, number}
 use Rattle.theorems_histories.specs.Boards.Made.{call, peek, ppu-peek, sprite-peek, mirroring-asked, interrupt-asked, cpu-page, ppu-page}
-use Rattle.theorems_histories.specs.Histories.{view}
+use Rattle.theorems_histories.specs.Watching.{view}
 use Rattle.theorems_histories.specs.Accepted.{refusal}
-
--- "a lent length differs from the one recorded at load"
-abbrev pub lentAsRecorded : Board → Bool
-lentAsRecorded b =
-    sameLengths (b .state .lengths) (length (b .mem .prg)) (length (b .mem .chr)) (length (b .mem .ram)) (length (b .mem .ciram)) (length (b .mem .exram))
 
 -- A call over the buffers: 4 and 5, "but a state not loaded gives 5 before 4", and then its own refusal.
 abbrev pub overBuffers : Board → ℕ → ℕ

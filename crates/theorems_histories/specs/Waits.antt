@@ -14,9 +14,10 @@ use Rattle.board.specs.declared.InterruptAnswer.the-variants.{Up, Down}
 use Rattle.board.specs.Loads.{loadCall}
 use Rattle.board.specs.StateCalls.{interruptCall}
 use Rattle.theorems_scanlines.specs.Told.{lineAt, Waiting, newLines, calm}
-use Rattle.theorems_scanlines.specs.Promise.{historyOf}
+use Rattle.theorems_scanlines.specs.Calls.{historyOf}
 use Rattle.theorems_histories.specs.Boards.{Board, Made}
-use Rattle.theorems_histories.specs.Histories.{Load, Reached, event}
+use Rattle.theorems_histories.specs.Histories.{Load, Reached}
+use Rattle.theorems_histories.specs.Watching.{event}
 use Rattle.theorems_histories.specs.Shorthand.{write, fetch}
 
 -- The newest first: $5203 = 2, $5204 = $80, line 0.

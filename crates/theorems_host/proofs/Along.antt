@@ -21,7 +21,7 @@ use Rattle.host_state.specs.Words.{wordsOf}
 use Rattle.host_answers.specs.Answers.{answerPlain, answerWithInterrupt}
 use Rattle.host.specs.Hosted.{LeftWords, leftWords, leavingWords}
 use Rattle.host_looks.specs.Pages.{entryNumber, entryOn}
-use Rattle.theorems_scanlines.specs.Promise.Played.{at-load, taken as going-on}
+use Rattle.theorems_scanlines.specs.Calls.Played.{at-load, taken as going-on}
 use Rattle.theorems_histories.specs.Boards.{Board, Made, leaves, number, numberIn}
 use Rattle.theorems_histories.specs.Histories.{Load, first, Reached}
 use Rattle.theorems_histories.specs.Boards.Made.{call, peek, ppu-peek, sprite-peek, mirroring-asked, interrupt-asked, cpu-page, ppu-page}

@@ -21,7 +21,7 @@ use Rattle.trace.specs.declared.Call.{Call}
 use Rattle.trace.specs.Promise.{InRange}
 use Rattle.trace.specs.Records.{recordAt}
 use Rattle.trace.proofs.RecordLaws.{record-sound}
-use Rattle.theorems_scanlines.specs.Promise.Played.{at-load, taken}
+use Rattle.theorems_scanlines.specs.Calls.Played.{at-load, taken}
 use Rattle.player.proofs.Ways.{by-found}
 use Rattle.transcript.proofs.SmallLoad.{load-small}
 use Rattle.theorems_histories.specs.Boards.{Board, Made, leaves}

@@ -17,8 +17,8 @@ use Rattle.board.specs.StateCalls.{interruptCall}
 use Rattle.trace.specs.declared.Call.{Call}
 use Rattle.trace.specs.Promise.{InRange}
 use Rattle.theorems_scanlines.specs.Told.{Up}
-use Rattle.theorems_scanlines.specs.Promise.{historyOf}
-use Rattle.theorems_scanlines.specs.Promise.Played.{at-load, taken}
+use Rattle.theorems_scanlines.specs.Calls.{historyOf}
+use Rattle.theorems_scanlines.specs.Calls.Played.{at-load, taken}
 use Rattle.transcript.specs.Bytes.{SmallMem}
 use Rattle.transcript.proofs.Small.{SmallState}
 use Rattle.transcript.proofs.SmallKept.{called-small}
@@ -26,7 +26,8 @@ use Rattle.transcript.proofs.SmallLoad.{load-small}
 use Rattle.host_answers.specs.Answers.{answerPlain, answerWithInterrupt, answerInterrupt}
 use Rattle.theorems_histories.specs.Boards.{Board, Made, says, leaves, numberIn}
 use Rattle.theorems_histories.specs.Boards.Made.{call, peek, ppu-peek, sprite-peek, mirroring-asked, interrupt-asked, cpu-page, ppu-page}
-use Rattle.theorems_histories.specs.Histories.{Load, Reached, view, event}
+use Rattle.theorems_histories.specs.Histories.{Load, Reached}
+use Rattle.theorems_histories.specs.Watching.{view, event}
 use Rattle.theorems_histories.specs.Replays.{answerAt}
 use Rattle.theorems_histories.proofs.Demands.{board-demand-3, asked}
 use Rattle.theorems_host.specs.Held.{Held, boardOf}

@@ -24,8 +24,8 @@ use Rattle.text.specs.Lines.{acceptedLine}
 use Rattle.text.specs.Sheet.{Sheet, sheet, textWritten}
 use Rattle.text.proofs.SheetLaws.{fits}
 use Rattle.theorems_scanlines.specs.Told.{up}
-use Rattle.theorems_scanlines.specs.Promise.{historyOf}
-use Rattle.theorems_scanlines.specs.Promise.Played.{at-load, taken}
+use Rattle.theorems_scanlines.specs.Calls.{historyOf}
+use Rattle.theorems_scanlines.specs.Calls.Played.{at-load, taken}
 use Rattle.theorems_scanlines.proofs.Worked.{tests-are-sentences}
 use Rattle.player.specs.Replay.{found}
 use Rattle.logs.specs.Logs.{logLetter}
@@ -33,7 +33,8 @@ use Rattle.transcript.specs.Lines.{linesFrom}
 use Rattle.transcript.proofs.Transcribed.{transcript-is-lines}
 use Rattle.theorems_histories.specs.Boards.{Board, Made, says, leaves, number, numberIn}
 use Rattle.theorems_histories.specs.Boards.Made.{call}
-use Rattle.theorems_histories.specs.Histories.{Load, first, Reached, view, event}
+use Rattle.theorems_histories.specs.Histories.{Load, first, Reached}
+use Rattle.theorems_histories.specs.Watching.{view, event}
 use Rattle.theorems_histories.specs.Replays.{answerAt}
 use Rattle.theorems_histories.proofs.Behind.{given}
 use Rattle.theorems_histories.proofs.Demands.{board-demand-3}

@@ -30,7 +30,7 @@ use Rattle.host_answers.specs.Answers.{answerPlain, answerWithInterrupt, answer
 use Rattle.theorems_histories.specs.Boards.{Board, Made, says, leaves, number, numberIn}
 use Rattle.theorems_histories.specs.Boards.Made.{call, peek, ppu-peek, sprite-peek, mirroring-asked, interrupt-asked, cpu-page, ppu-page}
 use Rattle.theorems_histories.specs.Boards.Said.{mirrors, interrupts}
-use Rattle.theorems_histories.specs.Histories.{view}
+use Rattle.theorems_histories.specs.Watching.{view}
 use Rattle.theorems_histories.proofs.Behind.{no-zero, given}
 use Rattle.theorems_host.specs.Held.{Hearing}
 use Rattle.theorems_host.specs.Held.Hearing.{number as hear, bytes}

@@ -8,12 +8,12 @@ use mathlib.Core.Path.{_≡_}
 use Rattle.trace.specs.declared.Call.{Call}
 use Rattle.trace.specs.Promise.{InRange}
 use Rattle.theorems_scanlines.specs.Told.{Up}
-use Rattle.theorems_scanlines.specs.Promise.{historyOf}
+use Rattle.theorems_scanlines.specs.Calls.{historyOf}
 use Rattle.transcript.specs.Bytes.{SmallMem}
 use Rattle.host_answers.specs.Answers.{answerPlain}
 use Rattle.theorems_histories.specs.Boards.{Made}
 use Rattle.theorems_histories.specs.Boards.Made.{call, interrupt-asked}
-use Rattle.theorems_histories.specs.Histories.{event}
+use Rattle.theorems_histories.specs.Watching.{event}
 use Rattle.theorems_histories.specs.Replays.{answerAt}
 use Rattle.theorems_host.specs.Held.{Held, boardOf}
 use Rattle.theorems_host.specs.Held.Hearing.{number}

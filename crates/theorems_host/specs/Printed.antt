@@ -20,14 +20,15 @@ use Rattle.trace.specs.Records.{kindOf, recordAt}
 use Rattle.text.specs.Digits.{digits}
 use Rattle.text.specs.Lines.{acceptedLine, refusedLine, unreadableLine, endLine}
 use Rattle.theorems_scanlines.specs.Told.{up, Up}
-use Rattle.theorems_scanlines.specs.Promise.{historyOf}
+use Rattle.theorems_scanlines.specs.Calls.{historyOf}
 use Rattle.logs.specs.Logs.{logLetter}
 use Rattle.player.specs.Replay.{found}
 use Rattle.transcript.specs.Cartridge.{transcript}
 use Rattle.transcript.proofs.cartridge.transcribe.Reads as transcribe
 use Rattle.theorems_histories.specs.Boards.{Board, Made, says, leaves, number}
 use Rattle.theorems_histories.specs.Boards.Made.{call}
-use Rattle.theorems_histories.specs.Histories.{Load, first, Reached, event}
+use Rattle.theorems_histories.specs.Histories.{Load, first, Reached}
+use Rattle.theorems_histories.specs.Watching.{event}
 use Rattle.theorems_histories.specs.Replays.{answerAt, letterAt}
 
 -- The lines of the records from a place on, at most so many, after the calls cs, which left b.

@@ -24,7 +24,8 @@ use Rattle.host_replay.specs.Replays.{endingNumber}
 use Rattle.theorems_histories.specs.Boards.{Board, Made, Said, says, leaves}
 use Rattle.theorems_histories.specs.Boards.Made.{call, peek, ppu-peek, sprite-peek, mirroring-asked, interrupt-asked, cpu-page, ppu-page}
 use Rattle.theorems_histories.specs.Boards.Said.{answers, mirrors, interrupts, shows}
-use Rattle.theorems_histories.specs.Histories.{Load, first, Reached, view}
+use Rattle.theorems_histories.specs.Histories.{Load, first, Reached}
+use Rattle.theorems_histories.specs.Watching.{view}
 use Rattle.theorems_histories.specs.Replays.{recordsTo, playedCalls, boardIn, replayOf}
 use Rattle.theorems_host.specs.Held.{Held, held, boardOf, heldOf, Hearing}
 use Rattle.theorems_host.specs.Held.Hearing.{number, bytes}

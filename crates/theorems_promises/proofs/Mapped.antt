@@ -14,7 +14,8 @@ use Rattle.memory.specs.declared.Src.the-variants.{PrgRom, PrgRam, Chr, CiRam, 
 use Rattle.memory.specs.Tests.{all}
 use Rattle.memory.specs.Tables.{prgMayHold, prgMayHoldAs, chrMayHold, chrMayHoldAs, prgTableOk, chrTableOk}
 use Rattle.memory.specs.Windows.{pageStart, windowPage, windowWord, chrWindow}
-use Rattle.memory.specs.PageWords.{word, page, blank, named, namedAs, wordOf, pageOf}
+use Rattle.memory.specs.PageWords.{word, page, blank, wordOf, pageOf}
+use Rattle.memory.specs.Named.{named, namedAs}
 use Rattle.memory.proofs.Tests.{split, and-left, and-right, and-both, pick-keeps}
 use Rattle.memory.proofs.WindowLaws.{page-inside, shown-page}
 use Rattle.memory.proofs.WordLaws.{making-is-undone}

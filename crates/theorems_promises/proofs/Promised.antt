@@ -26,6 +26,7 @@ use Rattle.state.specs.declared.State.{State}
 use Rattle.state.specs.Gate.{gateMem}
 use Rattle.cpu.specs.Reads.{pageAnswer, cpuAnswer, audioRead}
 use Rattle.ppu.specs.Served.{splitServes, countedServed, patternServed}
+use Rattle.ppu.proofs.ServedLaws.{counted-is, pattern-is}
 use Rattle.board.specs.declared.Outcome.{Outcome}
 use Rattle.board.specs.CpuSide.{cpuRead, cpuPeek, cpuWrite}
 use Rattle.board.specs.StateCalls.{resetCall, clockCall, ppuRegisterCall, mirroringCall, interruptCall}
@@ -60,16 +61,16 @@ unfolding chrAnswer pageAnswer
 page-is-given pages m a = shown-is-given (pageOf (chrWordAt pages a) .src) (pageByte m (pageOf (chrWordAt pages a)) a)
 
 name-is-given : (g : Regs) (v : VSplit) (f : Bool) (p : PpuStatus) (e : List ℕ) (a : ℕ) (x : Answer) → Given x → Given (countedServed g v f p e a x)
-unfolding countedServed
 name-is-given g v f p e a x h =
-    pick-keeps Given (splitServes g v f) refl
+    rw (counted-is g v f p e a x)
+    (pick-keeps Given (splitServes g v f) refl
     (pick-keeps Given (attributeUse g && (attributeAt a && not (spriteFetch (p .«tile_number»)))) refl
-    (pick-keeps Given (nametableUse g && eqb (selector (g .nametables) (a / 1024)) 3) refl h))
+    (pick-keeps Given (nametableUse g && eqb (selector (g .nametables) (a / 1024)) 3) refl h)))
 
 pattern-is-given : (g : Regs) (v : VSplit) (d : Detector) (p : PpuStatus) (e c : List ℕ) (a : ℕ) (x : Answer) → Given x → Given (patternServed g v d p e c a x)
-unfolding patternServed
 pattern-is-given g v d p e c a x h =
-    pick-keeps Given (splitServes g v (d .«in_frame»)) refl (pick-keeps Given (attributeUse g && not (spriteFetch (p .«tile_number»))) refl h)
+    rw (pattern-is g v d p e c a x)
+    (pick-keeps Given (splitServes g v (d .«in_frame»)) refl (pick-keeps Given (attributeUse g && not (spriteFetch (p .«tile_number»))) refl h))
 
 fetch-is-given : (s : State) (m : Mem) (a : ℕ) → gateMem s m ≡ Open → counterRefused (s .irq) a ≡ false → Given (ppuFetch s m a .answer)
 unfolding ppuFetch patternCall

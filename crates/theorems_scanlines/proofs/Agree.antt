@@ -13,10 +13,12 @@ use Rattle.memory.specs.Tests.{pick}
 use Rattle.memory.proofs.Tests.{split}
 use Rattle.scanline.specs.declared.Detector.{Detector}
 use Rattle.scanline.specs.Steps.{again, matchesAfter, isLine}
-use Rattle.theorems_scanlines.specs.Events.{Event, isClock, fetches, writes, address, value, counts}
-use Rattle.theorems_scanlines.specs.Events.Event.{clock, fetch, cpuRead, cpuWrite, ppuRegister, other}
-use Rattle.theorems_scanlines.specs.Told.{History, idle, row, breaks, recent, alike, lineAt, lines, inFrame, lastWrite, hadBit7}
-use Rattle.theorems_scanlines.specs.Machine.{step, run}
+use Rattle.theorems_scanlines.specs.Events.{isClock, fetches, writes, address, value, counts}
+use Rattle.theorems_scanlines.specs.Calls.{Event}
+use Rattle.theorems_scanlines.specs.Calls.Event.{clock, fetch, cpuRead, cpuWrite, ppuRegister, other}
+use Rattle.theorems_scanlines.specs.Told.{idle, row, breaks, recent, alike, lineAt, lines, inFrame, lastWrite, hadBit7}
+use Rattle.theorems_scanlines.specs.Calls.{History}
+use Rattle.theorems_scanlines.specs.Run.{step, run}
 use Rattle.theorems_scanlines.proofs.Fields.{resets, strikes, stepped, by-fields}
 
 -- two tests on numbers that come to the same

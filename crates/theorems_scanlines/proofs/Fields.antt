@@ -13,9 +13,10 @@ use Rattle.scanline.specs.Fetches.{countedAt}
 use Rattle.scanline.specs.Clock.{recordOf, withRecord, third}
 use Rattle.scanline.specs.Steps.{dark, matchesAfter, isLine, lineNumber, meets, seenAt}
 use Rattle.scanline.proofs.ClockLaws.{tick-is}
-use Rattle.theorems_scanlines.specs.Events.{Event, isClock, fetches, reads, writes, darkens, address, value, counts, vectors, clears}
-use Rattle.theorems_scanlines.specs.Events.Event.{clock, fetch, cpuRead, cpuWrite, ppuRegister, other}
-use Rattle.theorems_scanlines.specs.Machine.{step}
+use Rattle.theorems_scanlines.specs.Events.{isClock, fetches, reads, writes, darkens, address, value, counts, vectors, clears}
+use Rattle.theorems_scanlines.specs.Calls.{Event}
+use Rattle.theorems_scanlines.specs.Calls.Event.{clock, fetch, cpuRead, cpuWrite, ppuRegister, other}
+use Rattle.theorems_scanlines.specs.Run.{step}
 
 -- the call takes the detector out of frame, and the fetch before is none
 unfoldable pub resets : Detector → Event → Bool

@@ -14,10 +14,12 @@ use Rattle.memory.proofs.Tests.{split, and-left, and-right}
 use Rattle.scanline.specs.declared.Detector.{Detector}
 use Rattle.scanline.specs.Steps.{isLine, lineNumber, meets, interruptUp}
 use Rattle.scanline.proofs.StepLaws.{numbered}
-use Rattle.theorems_scanlines.specs.Events.{Event, fetches, reads, address, counts, vectors, clears}
-use Rattle.theorems_scanlines.specs.Events.Event.{clock, fetch, cpuRead, cpuWrite, ppuRegister, other}
-use Rattle.theorems_scanlines.specs.Told.{History, lineAt, lines, inFrame, lastWrite, noneOf, Hit, Flagged, hadBit7, Up, isValue, hits, flagTold, up}
-use Rattle.theorems_scanlines.specs.Machine.{step, run}
+use Rattle.theorems_scanlines.specs.Events.{fetches, reads, address, counts, vectors, clears}
+use Rattle.theorems_scanlines.specs.Calls.{Event}
+use Rattle.theorems_scanlines.specs.Calls.Event.{clock, fetch, cpuRead, cpuWrite, ppuRegister, other}
+use Rattle.theorems_scanlines.specs.Told.{lineAt, lines, inFrame, lastWrite, noneOf, Hit, Flagged, hadBit7, Up, isValue, hits, flagTold, up}
+use Rattle.theorems_scanlines.specs.Calls.{History}
+use Rattle.theorems_scanlines.specs.Run.{step, run}
 use Rattle.theorems_scanlines.proofs.Fields.{strikes, strikesTarget, stepped, by-fields}
 use Rattle.theorems_scanlines.proofs.Agree.{Agrees, agrees, strikes-line}
 

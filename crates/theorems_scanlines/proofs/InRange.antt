@@ -13,12 +13,13 @@ use Rattle.scanline.specs.Fetches.{countedAt}
 use Rattle.scanline.specs.Ranges.{detectorOk}
 use Rattle.scanline.proofs.FoldLaws.{fold-in-range}
 use Rattle.scanline.proofs.RangeLaws.{ranges-kept}
-use Rattle.theorems_scanlines.specs.Events.{Event}
-use Rattle.theorems_scanlines.specs.Events.Event.{clock, fetch, cpuRead, cpuWrite, ppuRegister, other}
-use Rattle.theorems_scanlines.specs.Told.{History}
-use Rattle.theorems_scanlines.specs.Machine.{step, Watched, eventRefused}
+use Rattle.theorems_scanlines.specs.Calls.{Event}
+use Rattle.theorems_scanlines.specs.Calls.Event.{clock, fetch, cpuRead, cpuWrite, ppuRegister, other}
+use Rattle.theorems_scanlines.specs.Calls.{History}
+use Rattle.theorems_scanlines.specs.Machine.{Watched, eventRefused}
+use Rattle.theorems_scanlines.specs.Run.{step}
 use Rattle.theorems_scanlines.specs.Promise.{LedTo, StaysInRange}
-use Rattle.theorems_scanlines.specs.Promise.Played.{at-load, taken}
+use Rattle.theorems_scanlines.specs.Calls.Played.{at-load, taken}
 
 detector : (d : Detector) (e : Event) → eventRefused d e ≡ false → detectorOk d ≡ true → detectorOk (step d e) ≡ true
 unfolding step eventRefused

@@ -9,9 +9,11 @@ use borrow.Author.Tests.{eqb-true, eqb-false, eq-eqb, ne-eqb, not-true}
 use lib.Dec.{eqb}
 use Rattle.memory.specs.Tests.{pick}
 use Rattle.memory.proofs.Tests.{split, and-left, and-right}
-use Rattle.theorems_scanlines.specs.Events.{Event, isClock, fetches, reads, darkens, address, counts, vectors}
-use Rattle.theorems_scanlines.specs.Events.Event.{clock, fetch, cpuRead, cpuWrite, ppuRegister, other}
-use Rattle.theorems_scanlines.specs.Told.{History, breaks, recent, alike, noneOf, lineAt}
+use Rattle.theorems_scanlines.specs.Events.{isClock, fetches, reads, darkens, address, counts, vectors}
+use Rattle.theorems_scanlines.specs.Calls.{Event}
+use Rattle.theorems_scanlines.specs.Calls.Event.{clock, fetch, cpuRead, cpuWrite, ppuRegister, other}
+use Rattle.theorems_scanlines.specs.Told.{breaks, recent, alike, noneOf, lineAt}
+use Rattle.theorems_scanlines.specs.Calls.{History}
 use Rattle.theorems_scanlines.specs.Sentence.{Before, Behind, Apart, Line, LineIsTheSentence}
 use Rattle.theorems_scanlines.specs.Sentence.Before.{here, further}
 use Rattle.theorems_scanlines.specs.Sentence.Behind.{broken, earlier}

@@ -13,10 +13,11 @@ use Rattle.scanline.specs.declared.Detector.{Detector}
 use Rattle.scanline.specs.Fetches.{countedAt}
 use Rattle.scanline.specs.Clock.{tick}
 use Rattle.scanline.specs.Steps.{dark, meets, seenAt, interruptUp}
-use Rattle.theorems_scanlines.specs.Events.{Event}
-use Rattle.theorems_scanlines.specs.Events.Event.{clock, fetch, cpuRead, cpuWrite, ppuRegister, other}
-use Rattle.theorems_scanlines.specs.Told.{History}
-use Rattle.theorems_scanlines.specs.Machine.{step, run, irqPendingBy, irqPending}
+use Rattle.theorems_scanlines.specs.Calls.{Event}
+use Rattle.theorems_scanlines.specs.Calls.Event.{clock, fetch, cpuRead, cpuWrite, ppuRegister, other}
+use Rattle.theorems_scanlines.specs.Calls.{History}
+use Rattle.theorems_scanlines.specs.Machine.{irqPendingBy, irqPending}
+use Rattle.theorems_scanlines.specs.Run.{step, run}
 
 onward : (d : Detector) (p : Bool) (e : Event) → p ≡ interruptUp d → irqPendingBy d p e ≡ interruptUp (step d e)
 unfolding irqPendingBy step tick seenAt

@@ -9,11 +9,14 @@ use mathlib.Core.List.{List, [], _∷_, _++_}
 use borrow.Author.Tests.{leb-true}
 use Rattle.scanline.specs.declared.Detector.{Detector}
 use Rattle.scanline.specs.Steps.{detectorAtLoad, interruptUp}
-use Rattle.theorems_scanlines.specs.Events.{Event}
-use Rattle.theorems_scanlines.specs.Told.{History, lines, inFrame}
-use Rattle.theorems_scanlines.specs.Machine.{step, run, Watched, atLoad, Taken, watched}
-use Rattle.theorems_scanlines.specs.Promise.{historyOf, Played, Demand3, AnyMachine, DetectorDemand3}
-use Rattle.theorems_scanlines.specs.Promise.Played.{at-load, taken}
+use Rattle.theorems_scanlines.specs.Calls.{Event}
+use Rattle.theorems_scanlines.specs.Told.{lines, inFrame}
+use Rattle.theorems_scanlines.specs.Calls.{History}
+use Rattle.theorems_scanlines.specs.Machine.{Watched, atLoad, Taken, watched}
+use Rattle.theorems_scanlines.specs.Run.{step, run}
+use Rattle.theorems_scanlines.specs.Promise.{Demand3, AnyMachine, DetectorDemand3}
+use Rattle.theorems_scanlines.specs.Calls.{historyOf, Played}
+use Rattle.theorems_scanlines.specs.Calls.Played.{at-load, taken}
 use Rattle.theorems_scanlines.proofs.Agree.{Agrees, agrees}
 use Rattle.theorems_scanlines.proofs.Flag.{flag-is, up-is, flag-iff, up-iff}
 use Rattle.theorems_scanlines.proofs.Stored.{stored}

@@ -8,9 +8,11 @@ use mathlib.Core.Option.{Option, some}
 use native.Mathlib.Omega.{arith}
 use Rattle.memory.specs.Tests.{pick}
 use Rattle.memory.proofs.Tests.{split, and-left, and-right}
-use Rattle.theorems_scanlines.specs.Events.{Event, fetches, writes, clears}
-use Rattle.theorems_scanlines.specs.Events.Event.{clock, fetch, cpuRead, cpuWrite, ppuRegister, other}
-use Rattle.theorems_scanlines.specs.Told.{History, breaks, lineAt, lines, lastWrite, noneOf, Hit, Flagged, hadBit7, Waiting, newLines, calm, hits, flagTold, up}
+use Rattle.theorems_scanlines.specs.Events.{fetches, writes, clears}
+use Rattle.theorems_scanlines.specs.Calls.{Event}
+use Rattle.theorems_scanlines.specs.Calls.Event.{clock, fetch, cpuRead, cpuWrite, ppuRegister, other}
+use Rattle.theorems_scanlines.specs.Told.{breaks, lineAt, lines, lastWrite, noneOf, Hit, Flagged, hadBit7, Waiting, newLines, calm, hits, flagTold, up}
+use Rattle.theorems_scanlines.specs.Calls.{History}
 use Rattle.theorems_scanlines.proofs.Flag.{hits-hit, flag-flagged, flag-since}
 
 none-true : (a b c : Bool) → not (a || b || c) ≡ true → (a ≡ false) × (b ≡ false) × (c ≡ false)

@@ -11,11 +11,14 @@ use Rattle.memory.proofs.Tests.{and-left, and-right}
 use Rattle.scanline.specs.Ranges.{lineRefused, counterRefused}
 use Rattle.scanline.specs.Clock.{tick}
 use Rattle.scanline.specs.Steps.{again, matchesAfter, isLine, meets, seenAt}
-use Rattle.theorems_scanlines.specs.Events.{Event, isClock, fetches, reads, writes, darkens, address, value, counts, vectors, clears}
-use Rattle.theorems_scanlines.specs.Told.{History, idle, row, breaks, recent, alike, lineAt, lines, inFrame, lastWrite, hadBit7, newLines, calm, isValue, hits, flagTold, up, TestsAreSentences, toldStatus}
-use Rattle.theorems_scanlines.specs.Machine.{step, eventRefused, tilesBy, watched, allTaken}
+use Rattle.theorems_scanlines.specs.Events.{isClock, fetches, reads, writes, darkens, address, value, counts, vectors, clears}
+use Rattle.theorems_scanlines.specs.Calls.{Event}
+use Rattle.theorems_scanlines.specs.Told.{idle, row, breaks, recent, alike, lineAt, lines, inFrame, lastWrite, hadBit7, newLines, calm, isValue, hits, flagTold, up, TestsAreSentences, toldStatus}
+use Rattle.theorems_scanlines.specs.Calls.{History}
+use Rattle.theorems_scanlines.specs.Machine.{eventRefused, tilesBy, watched, allTaken}
+use Rattle.theorems_scanlines.specs.Run.{step}
 use Rattle.theorems_scanlines.specs.Promise.{LedTo}
-use Rattle.theorems_scanlines.specs.Promise.Played.{at-load, taken}
+use Rattle.theorems_scanlines.specs.Calls.Played.{at-load, taken}
 use Rattle.theorems_scanlines.specs.Cases.{after, right, Cases, waitingFrom, between, last, Worked}
 use Rattle.theorems_scanlines.proofs.Flag.{flag-iff, up-iff}
 

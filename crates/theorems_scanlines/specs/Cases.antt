@@ -8,9 +8,10 @@ use mathlib.Core.Path.{_≡_}
 use lib.Dec.{eqb, T}
 use Rattle.memory.specs.Tests.{conj, pick, all}
 use Rattle.scanline.specs.Steps.{statusOf, interruptUp}
-use Rattle.theorems_scanlines.specs.Events.{Event}
-use Rattle.theorems_scanlines.specs.Events.Event.{clock, fetch, cpuRead, cpuWrite, ppuRegister}
-use Rattle.theorems_scanlines.specs.Told.{History, lineAt, Waiting, newLines, calm, up, toldStatus}
+use Rattle.theorems_scanlines.specs.Calls.{Event}
+use Rattle.theorems_scanlines.specs.Calls.Event.{clock, fetch, cpuRead, cpuWrite, ppuRegister}
+use Rattle.theorems_scanlines.specs.Told.{lineAt, Waiting, newLines, calm, up, toldStatus}
+use Rattle.theorems_scanlines.specs.Calls.{History}
 use Rattle.theorems_scanlines.specs.Machine.{watched, allTaken}
 use Rattle.theorems_scanlines.specs.Promise.{LedTo}
 

@@ -5,16 +5,8 @@ use Prim.Native.Nat.{ℕ}
 use mathlib.Core.Bool.{Bool, true, false, _&&_, _||_}
 use lib.Dec.{leb, eqb}
 use Rattle.scanline.specs.Steps.{dark}
-
--- A clock; a PPU fetch at an address; a CPU read at an address; a CPU write of a value; a PPU register write of a value; any other call:
--- a peek, a reset, a PPU memory write, a page view, mirroring or interrupt asked.
-pub data Event : Type 0 where
-  clock : Event
-  fetch : (addr : ℕ) → Event
-  cpuRead : (addr : ℕ) → Event
-  cpuWrite : (addr val : ℕ) → Event
-  ppuRegister : (addr val : ℕ) → Event
-  other : Event
+use Rattle.theorems_scanlines.specs.Calls.{Event}
+use Rattle.theorems_scanlines.specs.Calls.Event.{clock, fetch, cpuRead, cpuWrite, ppuRegister, other}
 
 unfoldable pub isClock : Event → Bool
 isClock clock = true

@@ -1,3 +1,5 @@
+pub mod Calls
+pub mod Run
 pub mod Events
 pub mod Told
 pub mod Sentence

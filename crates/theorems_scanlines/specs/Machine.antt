@@ -12,22 +12,10 @@ use Rattle.scanline.specs.Fetches.{countedAt, nameAt}
 use Rattle.scanline.specs.Tiles.{leftAfter}
 use Rattle.scanline.specs.Steps.{detectorAtLoad, matchesAfter, meets, seenAt, clocked, dark, darkened, vectorRead, statusRead, targeted, enabledBy}
 use Rattle.scanline.specs.Ranges.{counterRefused}
-use Rattle.theorems_scanlines.specs.Events.{Event}
-use Rattle.theorems_scanlines.specs.Events.Event.{clock, fetch, cpuRead, cpuWrite, ppuRegister, other}
-use Rattle.theorems_scanlines.specs.Told.{History}
-
-unfoldable pub step : Detector → Event → Detector
-step d clock = clocked d
-step d (fetch a) = pick (countedAt a) (seenAt d a) d
-step d (cpuRead a) = pick (eqb a 0xFFFA || eqb a 0xFFFB) (vectorRead d) (pick (eqb a 0x5204) (statusRead d) d)
-step d (cpuWrite a v) = pick (eqb a 0x5203) (targeted d v) (pick (eqb a 0x5204) (enabledBy d v) d)
-step d (ppuRegister a v) = pick (eqb a 0x2001 && dark v) (darkened d) d
-step d other = d
-
--- after all calls of a history, taken or not
-unfoldable pub run : History → Detector
-run [] = detectorAtLoad
-run (e ∷ h) = step (run h) e
+use Rattle.theorems_scanlines.specs.Calls.{Event}
+use Rattle.theorems_scanlines.specs.Calls.Event.{clock, fetch, cpuRead, cpuWrite, ppuRegister, other}
+use Rattle.theorems_scanlines.specs.Calls.{History}
+use Rattle.theorems_scanlines.specs.Run.{step, run}
 
 -- The detector with the full tile count, which is 01's: a number without an end. No code has it; the board keeps its fold (CR 7, crate `theorems_folds`).
 pub record Watched : Type 0 where

@@ -12,20 +12,12 @@ use Rattle.scanline.specs.declared.Detector.{Detector}
 use Rattle.scanline.specs.Steps.{detectorAtLoad, interruptUp}
 use Rattle.scanline.specs.Tiles.{fold, tilesOk}
 use Rattle.scanline.specs.Ranges.{detectorOk}
-use Rattle.theorems_scanlines.specs.Events.{Event}
-use Rattle.theorems_scanlines.specs.Told.{History, lineAt, lines, inFrame, Flagged, Up, Waiting, newLines, calm}
-use Rattle.theorems_scanlines.specs.Machine.{step, irqPending, Watched, atLoad, Taken}
-
--- the history that calls make, the newest first
-unfoldable pub historyOf : {C : Type 0} → (C → Event) → List C → History
-historyOf event [] = []
-historyOf event (c ∷ cs) = event c ∷ historyOf event cs
-
--- the calls cs, the newest first, were accepted one after the other, from load on, and left s: no call at all leaves `first`; and where cs left s and c is
--- taken from s to s', they and then c left s'
-pub data Played (S C : Type 0) (first : S) (Takes : S → C → S → Type 0) : List C → S → Type 0 where
-  at-load : Played S C first Takes [] first
-  taken : {cs : List C} {s s' : S} (c : C) → Played S C first Takes cs s → Takes s c s' → Played S C first Takes (c ∷ cs) s'
+use Rattle.theorems_scanlines.specs.Calls.{Event}
+use Rattle.theorems_scanlines.specs.Told.{lineAt, lines, inFrame, Flagged, Up, Waiting, newLines, calm}
+use Rattle.theorems_scanlines.specs.Calls.{History}
+use Rattle.theorems_scanlines.specs.Machine.{irqPending, Watched, atLoad, Taken}
+use Rattle.theorems_scanlines.specs.Run.{step}
+use Rattle.theorems_scanlines.specs.Calls.{historyOf, Played}
 
 pub record Demand3 (S C : Type 0) (first : S) (Takes : S → C → S → Type 0) (view : S → Detector) (event : C → Event) : Type 0 where
   pub in-frame : {cs : List C} {s : S} → Played S C first Takes cs s → view s .«in_frame» ≡ inFrame (historyOf event cs)

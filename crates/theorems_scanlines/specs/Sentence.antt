@@ -7,8 +7,10 @@ use mathlib.Core.Path.{_≡_}
 use mathlib.Core.Bool.{true, false}
 use mathlib.Core.List.{_∷_}
 use mathlib.Core.Logic.{_↔_}
-use Rattle.theorems_scanlines.specs.Events.{Event, fetches, counts, address}
-use Rattle.theorems_scanlines.specs.Told.{History, breaks, noneOf, lineAt}
+use Rattle.theorems_scanlines.specs.Events.{fetches, counts, address}
+use Rattle.theorems_scanlines.specs.Calls.{Event}
+use Rattle.theorems_scanlines.specs.Told.{breaks, noneOf, lineAt}
+use Rattle.theorems_scanlines.specs.Calls.{History}
 
 -- `Before h a k`: the fetch before the end of h is at a, with no break after it, and k is the history before that fetch
 pub data Before : History → ℕ → History → Type 0 where

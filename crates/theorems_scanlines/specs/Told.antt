@@ -10,10 +10,9 @@ use mathlib.Core.Option.{Option, none, some}
 use lib.Dec.{leb, eqb}
 use Rattle.memory.specs.Bits.{bitSet}
 use Rattle.memory.specs.Tests.{pick}
-use Rattle.theorems_scanlines.specs.Events.{Event, isClock, fetches, writes, darkens, address, value, counts, vectors, clears}
-
-abbrev pub History : Type 0
-History = List Event
+use Rattle.theorems_scanlines.specs.Events.{isClock, fetches, writes, darkens, address, value, counts, vectors, clears}
+use Rattle.theorems_scanlines.specs.Calls.{Event}
+use Rattle.theorems_scanlines.specs.Calls.{History}
 
 -- Breaks -----------------------------------------------------------------------------------------------------------------------------
 

@@ -30,6 +30,7 @@ use Rattle.state.specs.declared.State.{State}
 use Rattle.cpu.specs.Groups.{within}
 use Rattle.cpu.specs.Reads.{answeredAs, pageAnswer, orElse, registerAt, registerRead, cpuAnswer}
 use Rattle.ppu.specs.Served.{direct, splitByte, splitServes, countedServed, patternServed}
+use Rattle.ppu.proofs.ServedLaws.{counted-is, pattern-is}
 use Rattle.transcript.specs.Bytes.{Bytes, SmallMem}
 
 pub record SmallRegs (g : Regs) : Type 0 where
@@ -155,17 +156,17 @@ split-small v exram name h = pick-keeps Small name (h _) (mirrored-small _)
 
 pub counted-small : (g : Regs) (v : VSplit) (framed : Bool) (p : PpuStatus) (exram : List ℕ) (a : ℕ) (page : Answer) → SmallRegs g → Bytes exram → SmallAnswer page
     → SmallAnswer (countedServed g v framed p exram a page)
-unfolding countedServed
 counted-small g v framed p exram a page h e k =
-    pick-keeps SmallAnswer (splitServes g v framed) (split-small v exram _ e)
+    rw (counted-is g v framed p exram a page)
+    (pick-keeps SmallAnswer (splitServes g v framed) (split-small v exram _ e)
     (pick-keeps SmallAnswer (attributeUse g && (attributeAt a && not (spriteFetch (p .«tile_number»)))) (mirrored-small _)
     (pick-keeps SmallAnswer (nametableUse g && eqb (selector (g .nametables) (a / 1024)) 3) (pick-keeps Small (attributeAt a) (mirrored-small _) (h .fill-tile))
-    k))
+    k)))
 
 pub pattern-small : (g : Regs) (v : VSplit) (d : Detector) (p : PpuStatus) (exram chr : List ℕ) (a : ℕ) (page : Answer) → Bytes chr → SmallAnswer page
     → SmallAnswer (patternServed g v d p exram chr a page)
-unfolding patternServed
 pattern-small g v d p exram chr a page c k =
-    pick-keeps SmallAnswer (splitServes g v (d .«in_frame»)) (direct-small chr _ c)
+    rw (pattern-is g v d p exram chr a page)
+    (pick-keeps SmallAnswer (splitServes g v (d .«in_frame»)) (direct-small chr _ c)
     (pick-keeps SmallAnswer (attributeUse g && not (spriteFetch (p .«tile_number»))) (direct-small chr _ c)
-    k)
+    k))

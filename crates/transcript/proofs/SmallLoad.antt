@@ -9,7 +9,7 @@ use Rattle.memory.specs.Bytes.{Mem}
 use Rattle.memory.proofs.Tests.{split, pick-keeps}
 use Rattle.registers.specs.declared.Mirroring.{Mirroring}
 use Rattle.registers.specs.Registers.{regsAtLoad}
-use Rattle.split.specs.Control.{afterLoad}
+use Rattle.split.specs.Control.{splitAtLoad}
 use Rattle.state.specs.declared.Lengths.{Lengths}
 use Rattle.state.specs.Lengths.{prgTaken, chrTaken, ramTaken}
 use Rattle.board.specs.declared.Outcome.{Outcome}
@@ -48,7 +48,7 @@ regs-small : SmallRegs regsAtLoad
 regs-small =
     record { prg-mode = omega arith; chr-mode = omega arith; exram-mode = omega arith; nametables = omega arith; fill-tile = omega arith; fill-attr = omega arith; multiplicand = omega arith; multiplier = omega arith }
 
-split-at-load : SmallSplit afterLoad
+split-at-load : SmallSplit splitAtLoad
 split-at-load = record { mode = omega arith; scroll = omega arith; bank = omega arith }
 
 zero-small : SmallState zeroState

@@ -2,7 +2,7 @@
 use mathlib.Core.Bool.{false}
 use mathlib.Core.Path.{_≡_, refl}
 use Rattle.registers.specs.declared.Mirroring.the-variants.{Horizontal}
-use Rattle.memory.specs.Bytes.{offsetOf, byteAt, storedAt, pageStored}
+use Rattle.memory.specs.Bytes.{byteAt, storedAt, pageStored}
 use Rattle.memory.specs.Tests.{all}
 use Rattle.memory.specs.Tables.{prgMayHoldAs, chrMayHoldAs}
 use Rattle.memory.specs.PageWords.{wordNumber, pageOf}
@@ -41,5 +41,5 @@ use Rattle.text.specs.Lines.{line}
 use Rattle.transcript.specs.Lines.{linesFrom}
 
 pub worked-lines : linesFrom 22 worked 0 0 (loadCall cartridge false Horizontal .state) cartridge ≡ workedLines
-unfolding nextTile tilesOk spriteFetch isFirst isPrefetched columnOf lineRefused counterRefused detectorOk tick again matchesAfter isLine meets seenAt offsetOf byteAt storedAt pageStored all prgMayHoldAs chrMayHoldAs wordNumber pageOf pageStart windowPage written regsOk placed prgValues prgValuePages exramPage windowPages chrNumber chrMapped selector namePage namesMapped sameLengths gateOf lengthsOk inRange chosen ppuAfter splitAfter irqAfter prgBanksAfter chrBanksAfter pageAnswer registerAt registerRead irqRead cpuAnswer prgPagesAfter chrPagesAfter registerWritten latched cpuStored cacheAfter countedServed loadedState loadCall cpuRead cpuWrite clockCall statusAfter detectorAfter ppuRegisterCall countedCall ppuFetch chrAnswer grouped numeral limited numbered filled recordAt countedPages cartridge before line linesFrom
+unfolding nextTile tilesOk spriteFetch isFirst isPrefetched columnOf lineRefused counterRefused detectorOk tick again matchesAfter isLine meets seenAt byteAt storedAt pageStored all prgMayHoldAs chrMayHoldAs wordNumber pageOf pageStart windowPage written regsOk placed prgValues prgValuePages exramPage windowPages chrNumber chrMapped selector namePage namesMapped sameLengths gateOf lengthsOk inRange chosen ppuAfter splitAfter irqAfter prgBanksAfter chrBanksAfter pageAnswer registerAt registerRead irqRead cpuAnswer prgPagesAfter chrPagesAfter registerWritten latched cpuStored cacheAfter countedServed loadedState loadCall cpuRead cpuWrite clockCall statusAfter detectorAfter ppuRegisterCall countedCall ppuFetch chrAnswer grouped numeral limited numbered filled recordAt countedPages cartridge before line linesFrom
 worked-lines = refl

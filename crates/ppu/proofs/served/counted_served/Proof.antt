@@ -1,14 +1,14 @@
 -- Each `return` stands behind the tests of what is served before it.
 use borrow.Author.Needs.{needs}
-use Rattle.ppu.specs.Served.{countedServed}
+use Rattle.ppu.proofs.ServedLaws.{counted-is}
 use Rattle.ppu.proofs.served.counted_served.Statement.{statement}
 use Rattle.ppu.proofs.served.counted_served.Tie as tie
 
 returns : tie.Need-returns
-unfolding countedServed
 returns c =
     let at-active = c .before .before .before .before in
     rw (
+      counted-is _ _ _ _ _ _ _,
       ← at-active .before .before .nametable-use .ensures,
       ← at-active .active .ensures,
       c .before .before .if1 .taken,
@@ -17,11 +17,11 @@ returns c =
     )
 
 returns-2 : tie.Need-returns-2
-unfolding countedServed
 returns-2 c =
     let at-attribute-use = c .before .before .before .before in
     let at-active = at-attribute-use .before .before .before .before in
     rw (
+      counted-is _ _ _ _ _ _ _,
       ← at-active .before .before .nametable-use .ensures,
       ← at-active .active .ensures,
       at-attribute-use .before .before .if1 .left,
@@ -34,11 +34,11 @@ returns-2 c =
     )
 
 returns-3 : tie.Need-returns-3
-unfolding countedServed
 returns-3 c =
     let at-attribute-use = c .before .before .before .before .before in
     let at-active = at-attribute-use .before .before .before .before in
     rw (
+      counted-is _ _ _ _ _ _ _,
       ← at-active .before .before .nametable-use .ensures,
       ← at-active .active .ensures,
       at-attribute-use .before .before .if1 .left,
@@ -52,11 +52,11 @@ returns-3 c =
     )
 
 returns-4 : tie.Need-returns-4
-unfolding countedServed
 returns-4 c =
     let at-sprite-fetch = c .before .before .before .before .before in
     let at-attribute-address = at-sprite-fetch .before .before .before .before in
     rw (
+      counted-is _ _ _ _ _ _ _,
       ← at-attribute-address .before .nametable-use .ensures,
       ← at-sprite-fetch .before .before .before .active .ensures,
       at-sprite-fetch .before .if1 .left,
