@@ -3,3 +3,4 @@ pub mod WordLaws
 pub mod ByteLaws
 pub mod WindowLaws
 pub mod TableLaws
+pub mod NamedLaws

@@ -5,8 +5,7 @@ use mathlib.Core.Bool.{Bool, true, false, _&&_, not, false≢true}
 use mathlib.Core.List.{List, [], _∷_, map}
 use mathlib.Core.Path.{_≡_, refl, ap, _∙_}
 use native.Mathlib.Omega.{arith}
-use borrow.Author.Tests.{eqb-true, eqb-false, ne-eqb, lt-ltb, lt-leb, le-leb, leb-true, leb-false}
-use lib.Arith.{mod-mul}
+use borrow.Author.Tests.{eqb-true, eqb-false, ne-eqb, lt-leb, le-leb, leb-true, leb-false}
 use lib.Dec.{eqb, leb}
 use lib.ListN.{length, getD}
 use lib.Seq.{getD-set-same}
@@ -15,13 +14,12 @@ use Rattle.memory.specs.declared.PageWord.{PageWord}
 use Rattle.memory.specs.declared.Src.{Src}
 use Rattle.memory.specs.declared.Src.the-variants.{PrgRom, PrgRam}
 use Rattle.memory.specs.Bytes.{Mem, byteAt, storedAt, pageStored}
-use Rattle.memory.specs.PageWords.{word, page, blank, pageOf}
-use Rattle.memory.specs.Named.{namedAs}
+use Rattle.memory.specs.PageWords.{word, page, pageOf}
 use Rattle.memory.specs.Tests.{pick}
 use Rattle.memory.specs.Windows.{pageStart, windowPage, windowWord}
 use Rattle.memory.proofs.Tests.{split}
+use Rattle.memory.proofs.NamedLaws.{empty-page, by-pages, rom-page, ram-page}
 use Rattle.memory.proofs.WindowLaws.{page-inside, shown-page}
-use Rattle.memory.proofs.WordLaws.{making-is-undone}
 use Rattle.answers.specs.declared.Answer.the-variants.{Page as FromPage}
 use Rattle.registers.specs.Registers.{unlocked, written}
 use Rattle.banks.specs.Placed.{placed}
@@ -65,30 +63,6 @@ eight-mapped f i d h = row-mapped f 0 8 i d h ∙ ap f (omega arith)
 
 -- Pages ------------------------------------------------------------------------------------------------------------------------------
 
-empty-page : (s : Src) (len bank : ℕ) (w : Bool) (i : ℕ) → eqb len 0 ≡ true → windowPage s len 8192 bank w i ≡ blank
-unfolding windowPage
-empty-page s len bank w i t = rw t
-
--- A window's word names the window's page.
-named-page : (s : Src) (len bank : ℕ) (w : Bool) (i : ℕ) → len % 1024 ≡ 0 → ((k : ℕ) → k * 1024 + 1024 ≤ len → namedAs s k w ≡ true)
-    → pageOf (windowWord s len bank w i) ≡ windowPage s len 8192 bank w i
-unfolding namedAs
-named-page s len bank w i e names =
-    split (eqb len 0)
-    (λ t. rw (empty-page s len bank w i t) (making-is-undone blank refl))
-    (λ t.
-    let h : 1 ≤ len = omega (arith, eqb-false len 0 t) in
-    let k = pageStart len 8192 bank i / 1024 in
-    rw (shown-page s len 8192 bank w i h) (making-is-undone (page s k w) (names k (page-inside len 8192 bank i h e))))
-
-rom-named : (len k : ℕ) → len ≤ 1048576 → k * 1024 + 1024 ≤ len → namedAs PrgRom k false ≡ true
-unfolding namedAs
-rom-named len k m h = rw (lt-ltb k 1024 (omega arith))
-
-ram-named : (len k : ℕ) (w : Bool) → len ≤ 65536 → k * 1024 + 1024 ≤ len → namedAs PrgRam k w ≡ true
-unfolding namedAs
-ram-named len k w m h = lt-ltb k 64 (omega arith)
-
 -- The page of a window that shows a value.
 unfoldable valuePage : ℕ → ℕ → Bool → ℕ → ℕ → Page
 valuePage prg ram writable v i = pick (leb 128 v) (windowPage PrgRom prg 8192 (v % 128) false i) (windowPage PrgRam ram 8192 (v % 8) writable i)
@@ -104,8 +78,8 @@ value-page : (prg ram : ℕ) → Sized prg ram → (writable : Bool) (v i : ℕ)
 unfolding prgValuePages valuePage
 value-page prg ram z writable v i h =
     split (leb 128 v)
-    (λ t. rw (t, eight-mapped (windowWord PrgRom prg (v % 128) false) i (word 0) h) (named-page PrgRom prg (v % 128) false i (z .prg-whole) (λ k. rom-named prg k (z .prg-most))))
-    (λ t. rw (t, eight-mapped (windowWord PrgRam ram (v % 8) writable) i (word 0) h) (named-page PrgRam ram (v % 8) writable i (z .ram-whole) (λ k. ram-named ram k writable (z .ram-most))))
+    (λ t. rw (t, eight-mapped (windowWord PrgRom prg (v % 128) false) i (word 0) h) (rom-page prg 8192 (v % 128) i (z .prg-whole) (z .prg-most)))
+    (λ t. rw (t, eight-mapped (windowWord PrgRam ram (v % 8) writable) i (word 0) h) (ram-page ram 8192 (v % 8) i writable (z .ram-whole) (z .ram-most)))
 
 -- The page at an address of window w.
 mapped-page : (prg ram : ℕ) → Sized prg ram → (writable : Bool) (values : List ℕ) (pages : List PageWord) → length pages ≡ 64 → (w o : ℕ) → w < 5 → o < 8192
@@ -116,11 +90,6 @@ mapped-page prg ram z writable values pages e w o hw ho =
     (value-page prg ram z writable (getD values w 0) (o / 1024) (omega arith))
 
 -- Bytes ------------------------------------------------------------------------------------------------------------------------------
-
-by-pages : (len x : ℕ) → 1 ≤ len → len % 1024 ≡ 0 → x % len ≡ x / 1024 % (len / 1024) * 1024 + x % 1024
-by-pages len x h e =
-    let whole : len ≡ len / 1024 * 1024 = omega arith in
-    ap (λ (n : ℕ). x % n) whole ∙ mod-mul x {m = len / 1024} {c = 1024} (omega arith) (omega arith)
 
 -- The byte of a page, counted from the window's start: pages wrap as bytes do.
 wrapped : (len n o : ℕ) → 1 ≤ len → len % 1024 ≡ 0 → (n * 8192 + 1024 * (o / 1024)) % len / 1024 * 1024 + o % 1024 ≡ (n * 8192 + o) % len
@@ -144,7 +113,7 @@ module _ (m : Mem) (o a : ℕ) (low : a % 1024 ≡ o % 1024) where
   unfolding pageAnswer
   bank-answers s buffer bank w shows e =
       split (eqb (length buffer) 0)
-      (λ t. rw (empty-page s (length buffer) bank w (o / 1024) t, t))
+      (λ t. rw (empty-page s (length buffer) 8192 bank w (o / 1024) t, t))
       (λ t.
       let h : 1 ≤ length buffer = omega (arith, eqb-false (length buffer) 0 t) in
       rw (shown-page s (length buffer) 8192 bank w (o / 1024) h, t, ← window-offset (length buffer) bank o a h e low) (shows (pageStart (length buffer) 8192 bank (o / 1024) / 1024)))
@@ -170,7 +139,7 @@ module _ (m : Mem) (o a : ℕ) (low : a % 1024 ≡ o % 1024) where
   ram-stored bank true n e =
       let len = length (m .ram) in
       split (eqb len 0)
-      (λ t. rw (empty-page PrgRam len bank true (o / 1024) t, lt-leb 1 len (omega (arith, eqb-true len 0 t))))
+      (λ t. rw (empty-page PrgRam len 8192 bank true (o / 1024) t, lt-leb 1 len (omega (arith, eqb-true len 0 t))))
       (λ t.
       let h : 1 ≤ len = omega (arith, eqb-false len 0 t) in
       let inside = page-inside len 8192 bank (o / 1024) h e in
