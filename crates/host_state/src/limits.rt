@@ -1,4 +1,4 @@
-// The limits of the first 64 words: of those that every fetch or clock may change one by one, of the others in one loop.
+// The limits of the first 64 words: of those that a clock, a read or a fetch puts back one by one, of the others in one loop.
 ghost use mathlib.Core.Path.{_≡_};
 ghost use Prim.Native.Nat.{_-_};
 ghost use lib.ListN.{length, take};
@@ -72,8 +72,9 @@ fn excess(most: u16, n: u16) -> u16
     n - most
 }
 
-// The words that a fetch or a clock may change, 0 to 15. Each is loaded alone: a load of eight at once would wait until the stores of the call before
-// are in the cache (docs/SPEED.md). Flags together are at most 1, and bytes at most 255, where each is. Word 1, an address, may be anything: its test is no code.
+// Words 0 to 15: the detector, which a clock, a read and a fetch that counts put back, and what else a fetch may change. Each is loaded alone: a load of
+// eight at once would wait until the stores of the call before are in the cache (docs/SPEED.md). Flags together are at most 1, and bytes at most 255,
+// where each is. Word 1, an address, may be anything: its test is no code.
 fn moving_within(words: &[u16; 144]) -> bool
     ensures { λ r. ⌜ r ≡ allWithin (take 16 limits) (now (words .entry)) ⌝ }
 {

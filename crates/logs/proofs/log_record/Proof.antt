@@ -6,7 +6,10 @@ use Rattle.logs.proofs.log_record.Tie as tie
 
 returns : tie.Need-returns
 unfolding logged
-returns c = rw (← c .before .before .before .before .before .before .before .before .before .before .interrupt-up .ensures, ← c .before .before .before .before .before .before .before .before .before .log-letter .ensures, ← c .before .before .before .before .before .before .before .before .value-of .ensures, ← c .before .before .before .before .before .before .put .ensures) (c .before .before .put2 .ensures)
+returns c =
+    let at-put = c .before .before .before .before .before .before in
+    let at-value = at-put .before .before in
+    rw (← at-value .before .before .interrupt-up .ensures, ← at-value .before .log-letter .ensures, ← at-value .value-of .ensures, ← at-put .put .ensures) (c .before .before .put2 .ensures)
 
 pub log-record-spec : {M : Type 1} → statement M
 log-record-spec =

@@ -20,7 +20,11 @@ mul-result : tie.Need-mul-result
 mul-result c = omega (arith, number-fits (c .before .with-hi .result) (c .window-pages .result) 0 (search needs) (rw (c .window-pages .ensures) (size-most (c .before .before .before .before .args .regs .«chr_mode»))) (omega arith))
 
 add-result : tie.Need-add-result
-add-result c = omega (arith, number-fits (c .before .before .with-hi .result) (c .before .window-pages .result) (c .place-in .result) (search needs) (rw (c .before .window-pages .ensures) (size-most (c .before .before .before .before .before .args .regs .«chr_mode»))) (rw (c .place-in .ensures) (place-inside (c .before .before .before .before .before .args .regs .«chr_mode») (c .before .before .before .before .before .args .k))))
+add-result c =
+    let a = c .before .before .before .before .before .args in
+    let size = size-most (a .regs .«chr_mode») in
+    let place = place-inside (a .regs .«chr_mode») (a .k) in
+    omega (arith, number-fits (c .before .before .with-hi .result) (c .before .window-pages .result) (c .place-in .result) (search needs) (rw (c .before .window-pages .ensures) size) (rw (c .place-in .ensures) place))
 
 returns : tie.Need-returns
 unfolding chrNumber windowPages
