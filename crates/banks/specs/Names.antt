@@ -1,15 +1,14 @@
 -- Nametables. 01, module 3: "$5105 gives four selectors of two bits." Module 6: "Without nametable use ExRAM maps blank; Fill always maps blank".
-use Rattle.std.specs.Prelude.{ℕ, ◌*◌, ◌%◌, Bool, true, List, eqb}
+use Rattle.std.specs.Prelude.{ℕ, ◌/◌, ◌%◌, ◌^◌, Bool, true, List, eqb}
 use Rattle.memory.specs.declared.PageWord.{PageWord}
 use Rattle.memory.specs.declared.Src.TheVariants.{CiRam, ExRam}
-use Rattle.memory.specs.Bits.{low_bits, ◌>>◌}
 use Rattle.memory.specs.Tests.{pick}
 use Rattle.memory.specs.PageWords.{page, blank, word_of}
 use Rattle.banks.specs.Placed.{placed}
 
 -- "four selectors of two bits": number i mod 4, from the lowest bits on.
 unfoldable pub selector : ℕ → ℕ → ℕ
-selector n i = low_bits (n >> (2 * (i % 4))) 2
+selector n i = n / 4 ^ (i % 4) % 4
 
 -- 0 and 1 are CIRAM's two pages, 2 is ExRAM, 3 is Fill, as in the Rust's `NametableMapping::set` and `update_nametables`; CIRAM and ExRAM are marked
 -- writable, as in its `Memory::is_writable`.

@@ -1,10 +1,9 @@
 -- PRG banks. 01, module 4: "$6000 always PRG-RAM bank `$5113 & 7`. Elsewhere bit 7 set means ROM with seven bits, clear means RAM with three.
 -- 16k pairs clear bit 0 for the first window and set it for the second. 32k clears two low bits of $5117. $5117's windows are always ROM.
 -- RAM pages are writable only with $5102 = 2 and $5103 = 1."
-use Rattle.std.specs.Prelude.{ℕ, ◌+◌, ◌/◌, ◌%◌, Bool, false, List, [], ◌∷◌, eqb, ltb, get_or}
+use Rattle.std.specs.Prelude.{ℕ, ◌+◌, ◌*◌, ◌/◌, ◌%◌, Bool, false, List, [], ◌∷◌, eqb, leb, ltb, get_or}
 use Rattle.memory.specs.declared.PageWord.{PageWord}
 use Rattle.memory.specs.declared.Src.TheVariants.{PrgRom, PrgRam, ExRam}
-use Rattle.memory.specs.Bits.{bit_set, low_bits, low_clear}
 use Rattle.memory.specs.Tests.{pick}
 use Rattle.memory.specs.PageWords.{word, page, blank, word_of}
 use Rattle.memory.specs.Windows.{prg_window}
@@ -14,22 +13,22 @@ use Rattle.banks.specs.Placed.{placed}
 
 -- "16k pairs clear bit 0 for the first window and set it for the second."
 abbrev pub pair_first : ℕ → ℕ
-pair_first v = low_clear v 1
+pair_first v = v / 2 * 2
 
 abbrev pub pair_second : ℕ → ℕ
-pair_second v = low_clear v 1 + 1
+pair_second v = v / 2 * 2 + 1
 
 -- "32k clears two low bits of $5117": the value of the i-th of its four windows.
 abbrev pub quarter : ℕ → ℕ → ℕ
-quarter v i = low_clear v 2 + i
+quarter v i = v / 4 * 4 + i
 
 -- "$5117's windows are always ROM": bit 7 set.
 abbrev pub rom : ℕ → ℕ
-rom v = 128 + low_bits v 7
+rom v = 128 + v % 128
 
 -- "PRG-RAM bank `$5113 & 7`", and "clear means RAM with three" bits
 abbrev pub ram_bank : ℕ → ℕ
-ram_bank v = low_bits v 3
+ram_bank v = v % 8
 
 -- The values that the windows show: that at $6000, then those at $8000, $A000, $C000 and $E000, a row for each of the modes 0 to 3. Which register a
 -- window has in modes 1 to 3, 01 does not say: it is the Rust's `update_prg_banks` ($5115 at $8000; docs/DECISIONS.md).
@@ -44,7 +43,7 @@ prg_values mode b =
 
 -- "bit 7 set means ROM with seven bits": the eight pages of a window that shows a value; RAM is writable where it is unlocked.
 unfoldable pub prg_value_pages : ℕ → ℕ → Bool → ℕ → List PageWord
-prg_value_pages prg ram writable v = pick (bit_set v 7) (prg_window PrgRom prg (low_bits v 7) false) (prg_window PrgRam ram (ram_bank v) writable)
+prg_value_pages prg ram writable v = pick (leb 128 v) (prg_window PrgRom prg (v % 128) false) (prg_window PrgRam ram (ram_bank v) writable)
 
 -- Page k of the forty from $6000 on: page k mod 8 of window k / 8, by the value that the window shows.
 abbrev pub page_from6000 : ℕ → ℕ → Bool → List ℕ → ℕ → PageWord

@@ -1,6 +1,6 @@
 -- Load. 01, module 10: "Load writes no lent byte; it gives $5117 bit 7 set and the last bank, multiplier 255 x 255, fill tile 255, fill attribute 3,
 -- modes 8k and 1k, all else 0, off, none or sprite, then maps."
-use Rattle.std.specs.Prelude.{ℕ, ◌-◌, ◌/◌, Bool, true, false, not, List, [], ◌∷◌, length, replicate}
+use Rattle.std.specs.Prelude.{ℕ, ◌+◌, ◌-◌, ◌/◌, ◌%◌, Bool, true, false, not, List, [], ◌∷◌, length, replicate}
 use Rattle.memory.specs.Bytes.{Mem}
 use Rattle.memory.specs.Tests.{pick}
 use Rattle.memory.specs.PageWords.{word}
@@ -12,7 +12,7 @@ use Rattle.registers.specs.declared.Mirroring.TheVariants.{Horizontal}
 use Rattle.registers.specs.Registers.{regs_at_load}
 use Rattle.banks.specs.Chr.{chr_mapped}
 use Rattle.banks.specs.Names.{names_mapped}
-use Rattle.banks.specs.Prg.{rom, prg_mapped}
+use Rattle.banks.specs.Prg.{prg_mapped}
 use Rattle.scanline.specs.Steps.{detector_at_load}
 use Rattle.split.specs.Control.{split_at_load}
 use Rattle.state.specs.declared.Lengths.{Lengths}
@@ -43,7 +43,7 @@ not_loaded r = outcome (Refused r) zero_state
 
 -- "$5117 bit 7 set and the last bank": of banks of 8,192 bytes, in seven bits.
 abbrev pub last_bank : ℕ → ℕ
-last_bank prg = rom (prg / 8192 - 1)
+last_bank prg = 128 + (prg / 8192 - 1) % 128
 
 abbrev pub first_banks : ℕ → List ℕ
 first_banks prg = 0 ∷ 0 ∷ 0 ∷ 0 ∷ last_bank prg ∷ []

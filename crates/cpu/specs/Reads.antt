@@ -1,12 +1,11 @@
 -- A CPU read or peek. 01, "The board we take": "A CPU read asks the registers first, then the page".
-use Rattle.std.specs.Prelude.{ℕ, ◌-◌, ◌*◌, Bool, ◌||◌, List, eqb, get_or}
+use Rattle.std.specs.Prelude.{ℕ, ◌-◌, ◌*◌, ◌/◌, ◌%◌, Bool, ◌||◌, List, eqb, get_or}
 use Rattle.std.proofs.Math.Option.{Option, none, some}
 use Rattle.memory.specs.declared.Page.{Page}
 use Rattle.memory.specs.declared.Src.{Src}
 use Rattle.memory.specs.declared.Src.TheVariants.{PrgRom, PrgRam, Chr, CiRam, ExRam}
 use Rattle.memory.specs.declared.Src.TheVariants as src
 use Rattle.memory.specs.Bytes.{Mem, page_byte}
-use Rattle.memory.specs.Bits.{low_bits, ◌>>◌}
 use Rattle.memory.specs.Tests.{pick}
 use Rattle.memory.specs.PageWords.{page_of}
 use Rattle.answers.specs.declared.Answer.{Answer}
@@ -49,8 +48,8 @@ register_at g v d prg chr a =
     (pick (eqb a 0x5202) (some v.bank)
     (pick (eqb a 0x5203) (some d.irq_scanline)
     (pick (eqb a 0x5204) (some (status_of d))
-    (pick (eqb a 0x5205) (some (low_bits (g.multiplicand * g.multiplier) 8))
-    (pick (eqb a 0x5206) (some ((g.multiplicand * g.multiplier) >> 8))
+    (pick (eqb a 0x5205) (some (g.multiplicand * g.multiplier % 256))
+    (pick (eqb a 0x5206) (some (g.multiplicand * g.multiplier / 256))
     none)))))))))))))))
 
 -- the registers first, then the page

@@ -268,12 +268,12 @@ abbrev made : Lengths → Regs → VSplit → Detector → PpuStatus → Mirrori
 made z r v d p m pb cb pp cp =
     record { lengths = z; regs = r; vsplit = v; irq = d; ppu = p; screen = record { mirroring = m }; prg_banks = pb; chr_banks = cb; prg_pages = pp; chr_pages = cp }
 
-same_state_lem : {z z' : Lengths} {r r' : Regs} {v v' : VSplit} {d d' : Detector} {p p' : PpuStatus} {m m' : Mirroring} {pb pb' cb cb' : List ℕ} {pp pp' cp cp' : List PageWord}
+same_state : {z z' : Lengths} {r r' : Regs} {v v' : VSplit} {d d' : Detector} {p p' : PpuStatus} {m m' : Mirroring} {pb pb' cb cb' : List ℕ} {pp pp' cp cp' : List PageWord}
     → z ≡ z' → r ≡ r' → v ≡ v' → d ≡ d' → p ≡ p' → m ≡ m' → pb ≡ pb' → cb ≡ cb' → pp ≡ pp' → cp ≡ cp' → made z r v d p m pb cb pp cp ≡ made z' r' v' d' p' m' pb' cb' pp' cp'
-same_state_lem a b c d e f g h i j = rw (a, b, c, d, e, f, g, h, i, j)
+same_state a b c d e f g h i j = rw (a, b, c, d, e, f, g, h, i, j)
 
 pub words_forth : (s : State) → Fits s → in_range s ≡ true → state_of (words_of s) ≡ s
 words_forth s f h =
     let x = fields s h in
-    same_state_lem (lengths_forth s f x) (regs_forth s f x) (split_forth s f x) (irq_forth s f x) (ppu_forth s f x) (mirroring_forth s.screen.mirroring)
+    same_state (lengths_forth s f x) (regs_forth s f x) (split_forth s f x) (irq_forth s f x) (ppu_forth s f x) (mirroring_forth s.screen.mirroring)
     (prg_banks_forth s f x) (chr_banks_forth s f x) (prg_pages_forth s f.prg_pages) (chr_pages_forth s f.prg_pages f.chr_pages)

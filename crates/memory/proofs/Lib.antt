@@ -4,4 +4,3 @@ pub mod ByteLaws
 pub mod WindowLaws
 pub mod TableLaws
 pub mod NamedLaws
-pub mod BitLaws

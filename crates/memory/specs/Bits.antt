@@ -15,16 +15,9 @@ a << k = a * 2 ^ k
 abbrev pub ◌>>◌ : ℕ → ℕ → ℕ
 a >> k = a / 2 ^ k
 
--- a number's low k bits, and the number with these clear
-abbrev pub low_bits : ℕ → ℕ → ℕ
-low_bits a k = a % 2 ^ k
-
-abbrev pub low_clear : ℕ → ℕ → ℕ
-low_clear a k = (a >> k) << k
-
 -- bit k of a number is set
 abbrev pub bit_set : ℕ → ℕ → Bool
-bit_set a k = low_bits (a >> k) 1 == 1
+bit_set a k = (a >> k) % 2 == 1
 
 -- a test as a bit
 abbrev pub as_bit : Bool → ℕ

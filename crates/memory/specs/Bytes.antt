@@ -1,11 +1,10 @@
 -- The five lent buffers, the byte that a page and an address name, and a store through a page.
 -- 01, module 1: "1,024 bytes each .. Blank reads 0 and takes no write."
-use Rattle.std.specs.Prelude.{ℕ, ◌+◌, ◌*◌, List, [], slice_index, slice_set}
+use Rattle.std.specs.Prelude.{ℕ, ◌+◌, ◌*◌, ◌%◌, List, [], slice_index, slice_set}
 use Rattle.memory.specs.declared.Page.{Page}
 use Rattle.memory.specs.declared.Place.{Place}
 use Rattle.memory.specs.declared.Src.{Src}
 use Rattle.memory.specs.declared.Src.TheVariants.{Blank, PrgRom, PrgRam, Chr, CiRam, ExRam}
-use Rattle.memory.specs.Bits.{low_bits}
 use Rattle.memory.specs.Tests.{pick}
 
 -- 01, "What must change shape": "One boxed `data` with ranges: separate buffers."
@@ -39,7 +38,7 @@ with_buffer m ExRam l = mem_of m.prg m.chr m.ram m.ciram l
 
 -- The offset in the page's buffer: the page's first byte and the address's low ten bits.
 abbrev pub offset_of : ℕ → ℕ → ℕ
-offset_of index a = index * 1024 + low_bits a 10
+offset_of index a = index * 1024 + a % 1024
 
 abbrev pub place_of : Page → ℕ → Place
 place_of p a = record { src = p.src; offset = offset_of p.index a }

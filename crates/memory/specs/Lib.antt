@@ -7,5 +7,4 @@ pub mod Tables
 pub mod Promise
 pub mod Tests
 pub mod Cases
-pub mod Puts
 pub mod Bits

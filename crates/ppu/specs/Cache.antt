@@ -1,6 +1,5 @@
 -- The tile cache after a fetch at $2000-$3EFF.
-use Rattle.std.specs.Prelude.{ℕ, ◌&&◌, not}
-use Rattle.memory.specs.Bits.{low_bits}
+use Rattle.std.specs.Prelude.{ℕ, ◌%◌, ◌&&◌, not}
 use Rattle.memory.specs.Tests.{pick}
 use Rattle.registers.specs.declared.Regs.{Regs}
 use Rattle.registers.specs.Registers.{attribute_use}
@@ -9,4 +8,4 @@ use Rattle.scanline.specs.Tiles.{sprite_fetch}
 
 -- 01, "Fetches, runs, breaks": "tile cache (in attribute mode, not at an attribute address, tile count outside 32-39: the address's low ten bits)"
 unfoldable pub cache_after : Regs → ℕ → ℕ → ℕ → ℕ
-cache_after g cache tiles a = pick (attribute_use g && (not (attribute_at a) && not (sprite_fetch tiles))) (low_bits a 10) cache
+cache_after g cache tiles a = pick (attribute_use g && (not (attribute_at a) && not (sprite_fetch tiles))) (a % 1024) cache

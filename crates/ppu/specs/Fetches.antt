@@ -1,5 +1,6 @@
 -- What the code's two functions leave of a fetch at $2000-$3EFF, for the steps of the code. None of the three demands rests on them: what a fetch does is said
--- step by step in `board_ppu/specs/Fetch.antt`, and that it comes to these is `counted_by_groups` of `board_ppu/proofs/Made.antt`.
+-- step by step in `board_ppu/specs/Fetch.antt`, and that it comes to these is `counted_by_groups` of `board_ppu/proofs/Made.antt`. `SameBoard` of
+-- `theorems_folds` names them among the places that are handed the tile count.
 use Rattle.std.specs.Prelude.{ℕ, ◌&&◌}
 use Rattle.memory.specs.Tests.{pick}
 use Rattle.registers.specs.declared.Regs.{Regs}

@@ -12,7 +12,7 @@ use Rattle.scanline.specs.declared.Detector.{Detector}
 use Rattle.scanline.specs.Fetches.{attribute_at, name_at}
 use Rattle.scanline.specs.Tiles.{sprite_fetch, is_prefetched}
 use Rattle.split.specs.declared.VSplit.{VSplit}
-use Rattle.memory.specs.Bits.{◌AND◌, ◌OR◌, ◌<<◌, ◌>>◌, low_bits}
+use Rattle.memory.specs.Bits.{◌AND◌, ◌OR◌, ◌<<◌}
 use Rattle.split.specs.Control.{split_active}
 use Rattle.split.specs.Places.{attribute_address, attribute_shift, attribute_bits, mirrored_byte, pattern_offset}
 use Rattle.split.specs.Region.{scroll_of}
@@ -57,7 +57,7 @@ counted_by_split g v framed exram a = given (split_serves g v framed) (split_byt
 -- Module 6: "In attribute mode, tile count outside 32-39, an attribute address answers the top two bits of ExRAM at the tile cache, mirrored"
 abbrev pub counted_by_attribute : Regs → PpuStatus → List ℕ → ℕ → Option ℕ
 counted_by_attribute g p exram a =
-    given (attribute_use g && (attribute_at a && not (sprite_fetch p.tile_number))) (mirrored_byte (get_or exram p.tile_cache 0 >> 6))
+    given (attribute_use g && (attribute_at a && not (sprite_fetch p.tile_number))) (mirrored_byte (get_or exram p.tile_cache 0 / 64))
 
 -- Module 6: Fill "is served with that use only: its tile, or at an attribute address its attribute mirrored". That use is nametable use; selector 3
 -- of $5105 is Fill.
@@ -86,4 +86,4 @@ pattern_served g v d p exram chr a page = served (pattern_by_split g v d p chr a
 
 -- Module 5: "The sprite peek answers .. the CHR byte the sprite set would map there."
 unfoldable pub sprite_byte : Regs → List ℕ → List ℕ → ℕ → ℕ
-sprite_byte g b chr a = direct chr (chr_number g b false (a / 1024 % 8) * 1024 + low_bits a 10)
+sprite_byte g b chr a = direct chr (chr_number g b false (a / 1024 % 8) * 1024 + a % 1024)

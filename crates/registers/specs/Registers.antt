@@ -1,6 +1,5 @@
 -- The small registers: what they mean, what a write leaves, and their ranges. 01, modules 3, 9 and 10, and "STATE ranges".
-use Rattle.std.specs.Prelude.{ℕ, ◌%◌, Bool, true, false, ◌&&◌, List, [], ◌∷◌, eqb, leb}
-use Rattle.memory.specs.Bits.{low_bits, ◌<<◌}
+use Rattle.std.specs.Prelude.{ℕ, ◌*◌, ◌%◌, Bool, true, false, ◌&&◌, List, [], ◌∷◌, eqb, leb}
 use Rattle.memory.specs.Tests.{conj, pick}
 use Rattle.registers.specs.declared.Regs.{Regs}
 
@@ -32,16 +31,16 @@ unlocked g = eqb g.protect_a 2 && eqb g.protect_b 1
 unfoldable pub written : Regs → ℕ → ℕ → Regs
 written g a v =
     record {
-      prg_mode = pick (eqb a 0x5100) (low_bits v 2) g.prg_mode;
-      chr_mode = pick (eqb a 0x5101) (pick (attribute_use g) 1 (low_bits v 2)) g.chr_mode;
-      protect_a = pick (eqb a 0x5102) (low_bits v 2) g.protect_a;
-      protect_b = pick (eqb a 0x5103) (low_bits v 2) g.protect_b;
-      exram_mode = pick (eqb a 0x5104) (low_bits v 2) g.exram_mode;
+      prg_mode = pick (eqb a 0x5100) (v % 4) g.prg_mode;
+      chr_mode = pick (eqb a 0x5101) (pick (attribute_use g) 1 (v % 4)) g.chr_mode;
+      protect_a = pick (eqb a 0x5102) (v % 4) g.protect_a;
+      protect_b = pick (eqb a 0x5103) (v % 4) g.protect_b;
+      exram_mode = pick (eqb a 0x5104) (v % 4) g.exram_mode;
       exram_chosen = pick (eqb a 0x5104) true g.exram_chosen;
       nametables = pick (eqb a 0x5105) v g.nametables;
       fill_tile = pick (eqb a 0x5106) v g.fill_tile;
-      fill_attr = pick (eqb a 0x5107) (low_bits v 2) g.fill_attr;
-      chr_hi = pick (eqb a 0x5130) (low_bits v 2 << 8) g.chr_hi;
+      fill_attr = pick (eqb a 0x5107) (v % 4) g.fill_attr;
+      chr_hi = pick (eqb a 0x5130) (v % 4 * 256) g.chr_hi;
       multiplicand = pick (eqb a 0x5205) v g.multiplicand;
       multiplier = pick (eqb a 0x5206) v g.multiplier;
     }

@@ -1,15 +1,25 @@
--- What a fetch leaves, by cases, and the tests that the code makes in another form than the definitions. Each over plain variables.
-use Prim.Native.Nat.{ℕ, ◌+◌, ◌<◌}
-use mathlib.Core.Path.{◌≡◌, ap}
-use mathlib.Core.Bool.{Bool, true, ◌&&◌, ◌||◌}
+-- What a fetch leaves, by cases, what a break and the reads that clear the flag leave, and the tests that the code makes in another form than the
+-- definitions. Each over plain variables.
+use Prim.Native.Nat.{ℕ, ◌+◌, ◌/◌, ◌%◌, ◌<◌, ◌≤◌}
+use mathlib.Core.Path.{◌≡◌, refl, ap}
+use mathlib.Core.Bool.{Bool, true, false, ◌&&◌, ◌||◌}
 use native.Mathlib.Omega.{arith}
 use borrow.Author.Tests.{ltb-true, lt-ltb, le-leb, eq-eqb, ne_eqb}
 use lib.Dec.{eqb, leb, ltb}
-use Rattle.memory.proofs.Tests.{same_test, split}
+use Rattle.memory.specs.Bits.{bit_set}
+use Rattle.memory.specs.Tests.{pick}
+use Rattle.memory.proofs.Tests.{same_test, split, and_false}
 use Rattle.scanline.specs.declared.Detector.{Detector}
 use Rattle.scanline.specs.Tiles.{column_of}
-use Rattle.scanline.specs.Steps.{matches_after, is_line, line_number, meets, seen_at}
+use Rattle.scanline.specs.Steps.{matches_after, is_line, line_number, meets, seen_at, darkened, status_read, vector_read}
 use Rattle.scanline.specs.Ranges.{line_refused}
+
+-- bit 7 of a byte
+pub bit_set_lem : (v : ℕ) → v < 256 → 127 < v → bit_set v 7 ≡ true
+bit_set_lem v p q = eq-eqb (v / 128 % 2) 1 (omega arith)
+
+pub bit_clear : (v : ℕ) → v ≤ 127 → bit_set v 7 ≡ false
+bit_clear v p = ne_eqb (v / 128 % 2) 1 (λ q. omega arith)
 
 -- above n, or above n + 1 with one more
 pub one_more : (n k : ℕ) → ltb n k ≡ ltb (n + 1) (k + 1)
@@ -48,6 +58,41 @@ module _ (d : Detector) (a m : ℕ) (q : m ≡ matches_after d a) where
   pub line_over : eqb m 2 && (d.in_frame && ltb 65278 d.scanline) ≡ line_refused d a
   unfolding line_refused is_line
   line_over = rw (← q) (ap (λ (b : Bool). eqb m 2 && b) (split d.in_frame (λ t. rw t (one_more 65278 d.scanline)) (λ t. rw t)))
+
+-- what `seen_at` was
+pub seen_is : (d : Detector) (a : ℕ)
+    → seen_at d a ≡ with_run d a (matches_after d a) (is_line d a || d.in_frame) (pick (is_line d a) (line_number d) d.scanline) (meets d a || d.pending)
+unfolding seen_at
+seen_is d a = refl
+
+-- the match count that a fetch leaves is what zeroes the tile count
+pub seen_matches : (d : Detector) (a : ℕ) → (seen_at d a).match_count ≡ matches_after d a
+unfolding seen_at
+seen_matches d a = refl
+
+-- What the break by $2001 and the reads of $5204, $FFFA and $FFFB were: the detector, its frame and the previous fetch changed, and its flag.
+abbrev with_frame : Detector → Bool → Bool → Bool → Detector
+with_frame d some framed flag = record {
+  prev_some = some;
+  prev_addr = d.prev_addr;
+  match_count = d.match_count;
+  reading = d.reading;
+  idle_count = d.idle_count;
+  in_frame = framed;
+  scanline = d.scanline;
+  pending = flag;
+  irq_enabled = d.irq_enabled;
+  irq_scanline = d.irq_scanline;
+}
+
+pub darkened_is : (d : Detector) → darkened d ≡ with_frame d false false d.pending
+darkened_is d = refl
+
+pub status_read_is : (d : Detector) → status_read d ≡ with_frame d d.prev_some d.in_frame false
+status_read_is d = refl
+
+pub vector_read_is : (d : Detector) → vector_read d ≡ with_frame d false false false
+vector_read_is d = refl
 
 -- a column is one of 42
 pub column_below : (t : ℕ) → column_of t < 42

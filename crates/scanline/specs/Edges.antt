@@ -1,46 +1,27 @@
 -- Worked cases at the edges, one list under one statement: what a definition gives, and what 01, CR 7 or the Rust says.
 -- 01, "Examples at the edges": "In frame, line counter 65,278 takes a line, 65,279 refuses."
-use Rattle.std.specs.Prelude.{ℕ, true, false, List, [], ◌∷◌, ◌++◌, T}
+use Rattle.std.specs.Prelude.{ℕ, Bool, true, false, List, [], ◌∷◌, ◌++◌, T}
 use Rattle.memory.specs.Cases.{Case, is, holds, fails, right}
 use Rattle.scanline.specs.declared.Detector.{Detector}
 use Rattle.scanline.specs.Fetches.{counted_at, attribute_at, name_at}
 use Rattle.scanline.specs.Tiles.{sprite_fetch, column_of, is_prefetched, is_first, fold, tiles_ok, raised_by, left_after}
-use Rattle.scanline.specs.With.{with_pending}
-use Rattle.scanline.specs.Clock.{with_record}
 use Rattle.scanline.specs.Steps.{matches_after, seen_at, clocked, darkened, vector_read, status_read, targeted, enabled_by, status_of, interrupt_up}
 use Rattle.scanline.specs.Ranges.{detector_ok, counter_refused}
 
--- in frame at line n; the fetch before was at $2000, the first of its run, and no clock was idle; the flag is clear, the interrupt disabled and the target 5
-abbrev pub on_line : ℕ → Detector
-on_line n = record {
+-- after m fetches at $2000 equal to the one before them, with an idle count of i, in frame or not, at line n, with the interrupt's flag or not; the interrupt is disabled and the target is 5
+abbrev pub at : ℕ → ℕ → Bool → ℕ → Bool → Detector
+at m i framed n flag = record {
   prev_some = true;
   prev_addr = record { 0 = 0x2000 };
-  match_count = 0;
+  match_count = m;
   reading = false;
-  idle_count = 0;
-  in_frame = true;
+  idle_count = i;
+  in_frame = framed;
   scanline = n;
-  pending = false;
+  pending = flag;
   irq_enabled = false;
   irq_scanline = 5;
 }
-
--- .. and m equal ones came after the first
-abbrev pub after_equal : ℕ → Detector → Detector
-after_equal m d =
-    record { prev_some = d.prev_some; prev_addr = d.prev_addr; match_count = m; reading = d.reading; idle_count = d.idle_count; in_frame = d.in_frame; scanline = d.scanline; pending = d.pending; irq_enabled = d.irq_enabled; irq_scanline = d.irq_scanline }
-
--- .. and the idle clocks of the row are i
-abbrev pub idle_for : ℕ → Detector → Detector
-idle_for i d = with_record d (record { reading = d.reading; idle_count = i; in_frame = d.in_frame; prev_some = d.prev_some; prev_addr = d.prev_addr })
-
--- .. and no line came since the last break; the line counter is what the last frame left
-abbrev pub out_of_frame : Detector → Detector
-out_of_frame d = with_record d (record { reading = d.reading; idle_count = d.idle_count; in_frame = false; prev_some = d.prev_some; prev_addr = d.prev_addr })
-
--- .. and the flag is set
-abbrev pub flagged : Detector → Detector
-flagged d = with_pending d true
 
 abbrev pub addresses : List Case
 addresses =
@@ -81,29 +62,29 @@ tiles =
     ∷ is (raised_by 83 0x2000) 42
     ∷ is (raised_by 83 0x23C0) 83
     -- the third of a run zeroes the count, and so does each equal after it
-    ∷ is (left_after (matches_after (on_line 3) 0x2000) 8) 8
-    ∷ is (left_after (matches_after (after_equal 1 (on_line 3)) 0x2000) 8) 0
-    ∷ is (left_after (matches_after (after_equal 2 (on_line 3)) 0x2000) 8) 0
-    ∷ is (left_after (matches_after (after_equal 255 (on_line 3)) 0x2000) 8) 0
-    ∷ is (left_after (matches_after (after_equal 1 (on_line 3)) 0x2001) 8) 8
+    ∷ is (left_after (matches_after (at 0 0 true 3 false) 0x2000) 8) 8
+    ∷ is (left_after (matches_after (at 1 0 true 3 false) 0x2000) 8) 0
+    ∷ is (left_after (matches_after (at 2 0 true 3 false) 0x2000) 8) 0
+    ∷ is (left_after (matches_after (at 255 0 true 3 false) 0x2000) 8) 0
+    ∷ is (left_after (matches_after (at 1 0 true 3 false) 0x2001) 8) 8
     ∷ []
 
 abbrev pub refusals : List Case
 refusals =
-    fails (counter_refused (after_equal 1 (on_line 65278)) 0x2000)
-    ∷ holds (counter_refused (after_equal 1 (on_line 65279)) 0x2000)
+    fails (counter_refused (at 1 0 true 65278 false) 0x2000)
+    ∷ holds (counter_refused (at 1 0 true 65279 false) 0x2000)
     -- the second and the fourth of a run make no line
-    ∷ fails (counter_refused (on_line 65279) 0x2000)
-    ∷ fails (counter_refused (after_equal 2 (on_line 65279)) 0x2000)
+    ∷ fails (counter_refused (at 0 0 true 65279 false) 0x2000)
+    ∷ fails (counter_refused (at 2 0 true 65279 false) 0x2000)
     -- out of frame the line counter is what the last frame left
-    ∷ fails (counter_refused (after_equal 1 (out_of_frame (on_line 65279))) 0x2000)
+    ∷ fails (counter_refused (at 1 0 false 65279 false) 0x2000)
     -- a fetch below $2000 counts for nothing, whatever the state handed in says was before it
-    ∷ fails (counter_refused (seen_at (seen_at (on_line 65279) 0x1FFF) 0x1FFF) 0x1FFF)
+    ∷ fails (counter_refused (seen_at (seen_at (at 0 0 true 65279 false) 0x1FFF) 0x1FFF) 0x1FFF)
     ∷ holds (tiles_ok 83)
     ∷ fails (tiles_ok 84)
-    ∷ holds (detector_ok (idle_for 2 (on_line 65279)))
-    ∷ fails (detector_ok (idle_for 3 (on_line 65279)))
-    ∷ fails (detector_ok (idle_for 2 (on_line 65280)))
+    ∷ holds (detector_ok (at 0 2 true 65279 false))
+    ∷ fails (detector_ok (at 0 3 true 65279 false))
+    ∷ fails (detector_ok (at 0 2 true 65280 false))
     ∷ []
 
 -- CR 7: of a full count, what is kept, and the column of both
@@ -130,23 +111,23 @@ turns =
 
 abbrev pub calls : List Case
 calls =
-    -- the third equal fetch: line 5 meets the target, lines 6 and 0 do not
-    is (status_of (seen_at (after_equal 1 (on_line 4)) 0x2000)) 192
-    ∷ is (status_of (seen_at (after_equal 1 (on_line 5)) 0x2000)) 64
-    ∷ is (status_of (seen_at (targeted (after_equal 1 (out_of_frame (on_line 9))) 0) 0x2000)) 64
-    ∷ is (seen_at (after_equal 1 (out_of_frame (on_line 9))) 0x2000).scanline 0
-    ∷ is (seen_at (after_equal 1 (on_line 9)) 0x3000).match_count 0
-    ∷ is (seen_at (after_equal 255 (on_line 9)) 0x2000).match_count 255
-    ∷ is (status_of (clocked (idle_for 1 (flagged (on_line 9))))) 192
-    ∷ is (status_of (clocked (idle_for 2 (flagged (on_line 9))))) 128
-    ∷ is (clocked (idle_for 1 (flagged (on_line 9)))).idle_count 2
-    ∷ is (clocked (idle_for 2 (flagged (on_line 9)))).idle_count 0
-    ∷ is (status_of (darkened (flagged (on_line 9)))) 128
-    ∷ is (status_of (vector_read (flagged (on_line 9)))) 0
-    ∷ is (status_of (status_read (flagged (on_line 9)))) 64
-    ∷ is (status_of (enabled_by (flagged (on_line 9)) 0)) 192
-    ∷ holds (interrupt_up (enabled_by (flagged (on_line 9)) 128))
-    ∷ fails (interrupt_up (enabled_by (flagged (on_line 9)) 127))
+    -- the third equal fetch: line 5 meets the target, line 0 does not
+    is (status_of (seen_at (at 1 0 true 4 false) 0x2000)) 192
+    ∷ is (status_of (seen_at (at 1 0 true 5 false) 0x2000)) 64
+    ∷ is (status_of (seen_at (targeted (at 1 0 false 9 false) 0) 0x2000)) 64
+    ∷ is (seen_at (at 1 0 false 9 false) 0x2000).scanline 0
+    ∷ is (seen_at (at 1 0 true 9 false) 0x3000).match_count 0
+    ∷ is (seen_at (at 255 0 true 9 false) 0x2000).match_count 255
+    ∷ is (status_of (clocked (at 0 1 true 9 true))) 192
+    ∷ is (status_of (clocked (at 0 2 true 9 true))) 128
+    ∷ is (clocked (at 0 1 true 9 true)).idle_count 2
+    ∷ is (clocked (at 0 2 true 9 true)).idle_count 0
+    ∷ is (status_of (darkened (at 0 0 true 9 true))) 128
+    ∷ is (status_of (vector_read (at 0 0 true 9 true))) 0
+    ∷ is (status_of (status_read (at 0 0 true 9 true))) 64
+    ∷ is (status_of (enabled_by (at 0 0 true 9 true) 0)) 192
+    ∷ holds (interrupt_up (enabled_by (at 0 0 true 9 true) 128))
+    ∷ fails (interrupt_up (enabled_by (at 0 0 true 9 true) 127))
     ∷ []
 
 abbrev pub Edges : Type 0

@@ -2,9 +2,7 @@ pub mod Fetches
 pub mod Tiles
 pub mod Turns
 pub mod Clock
-pub mod With
 pub mod Steps
 pub mod Ranges
 pub mod Kept
-pub mod Puts
 pub mod Edges

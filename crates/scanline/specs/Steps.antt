@@ -1,11 +1,10 @@
 -- The detector after each call that it can tell from another, and what it answers.
 -- Words in quotes are 01's, "Fetches, runs, breaks", where no other place is named. The definitions of a fetch are asked for addresses at
 -- $2000-$3EFF only (`counted_at`).
-use Rattle.std.specs.Prelude.{ℕ, ◌+◌, min, Bool, true, false, not, ◌&&◌, ◌||◌, leb, eqb}
+use Rattle.std.specs.Prelude.{ℕ, ◌+◌, ◌/◌, ◌%◌, min, Bool, true, false, ◌&&◌, ◌||◌, leb, eqb}
 use Rattle.memory.specs.Bits.{bit_set}
 use Rattle.memory.specs.Tests.{pick}
 use Rattle.scanline.specs.declared.Detector.{Detector}
-use Rattle.scanline.specs.With.{with_pending, with_enabled, with_target}
 use Rattle.scanline.specs.Clock.{record_of, with_record, broken_record, tick}
 
 -- 01, module 10: load gives "all else 0, off, none"
@@ -69,7 +68,7 @@ clocked d = with_record d (tick (record_of d))
 
 -- "A break is a PPU register write to $2001 with bits 3 and 4 clear": the value of such a write ..
 abbrev pub dark : ℕ → Bool
-dark v = not (bit_set v 3) && not (bit_set v 4)
+dark v = eqb (v / 8 % 4) 0
 
 -- .. and the detector after it; the flag stands
 abbrev pub darkened : Detector → Detector
@@ -77,20 +76,46 @@ darkened d = with_record d (broken_record (record_of d))
 
 -- a CPU read of $5204 clears the flag
 abbrev pub status_read : Detector → Detector
-status_read d = with_pending d false
+status_read d = record {
+  prev_some = d.prev_some;
+  prev_addr = d.prev_addr;
+  match_count = d.match_count;
+  reading = d.reading;
+  idle_count = d.idle_count;
+  in_frame = d.in_frame;
+  scanline = d.scanline;
+  pending = false;
+  irq_enabled = d.irq_enabled;
+  irq_scanline = d.irq_scanline;
+}
 
 -- "a CPU read of $FFFA or $FFFB" is a break too, and clears the flag
 abbrev pub vector_read : Detector → Detector
 vector_read d = status_read (darkened d)
 
+-- the two registers changed
+abbrev pub with_target : Detector → Bool → ℕ → Detector
+with_target d on n = record {
+  prev_some = d.prev_some;
+  prev_addr = d.prev_addr;
+  match_count = d.match_count;
+  reading = d.reading;
+  idle_count = d.idle_count;
+  in_frame = d.in_frame;
+  scanline = d.scanline;
+  pending = d.pending;
+  irq_enabled = on;
+  irq_scanline = n;
+}
+
 -- 00, demand 3: "the value last written to $5203"
 abbrev pub targeted : Detector → ℕ → Detector
-targeted d v = with_target d v
+targeted d v = with_target d d.irq_enabled v
 
 -- 00, demand 3: "the last write to $5204 had bit 7 set"; the flag stands (01, "Easy errors": "clearing the
 -- flag on a $5204 disable")
 abbrev pub enabled_by : Detector → ℕ → Detector
-enabled_by d v = with_enabled d (bit_set v 7)
+enabled_by d v = with_target d (bit_set v 7) d.irq_scanline
 
 -- Answers ----------------------------------------------------------------------------------------------------------------------------
 

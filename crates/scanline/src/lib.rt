@@ -6,7 +6,6 @@ ghost use Rattle.std.specs.Prelude.{◌≡◌, ◌<◌, ◌≤◌};
 ghost use Rattle.scanline.specs.Steps.{detector_at_load, matches_after, line_number, seen_at, clocked, darkened, vector_read, status_read, targeted, enabled_by, status_of, interrupt_up};
 ghost use Rattle.scanline.specs.Ranges.{detector_ok, line_refused, counter_refused};
 ghost use Rattle.scanline.specs.Kept.{RangesKept, SameClock};
-ghost use Rattle.scanline.specs.Puts.{OneField};
 ghost use Rattle.scanline.specs.Edges.{Edges};
 ghost use Rattle.scanline.specs.Turns.{Turns, FourLooks};
 
@@ -204,7 +203,7 @@ pub fn clock(d: Detector) -> Detector
     n
 }
 
-// Ties what specs/Kept.antt, specs/Puts.antt, specs/Turns.antt and specs/Edges.antt say to the crate: without their proofs this function is not proved.
+// Ties what specs/Kept.antt, specs/Turns.antt and specs/Edges.antt say to the crate: without their proofs this function is not proved.
 pub fn promises()
-    ensures { RangesKept × SameClock × OneField × Turns × FourLooks × Edges }
+    ensures { RangesKept × SameClock × Turns × FourLooks × Edges }
 {}

@@ -5,8 +5,8 @@ use native.Mathlib.Omega.{arith}
 use native.Mathlib.Nat.{lt_of_lt_of_le, div-eq_of_lt}
 use lib.Bits.{and_high, and_mask, or_shifted}
 use lib.Pow.{pow_mono}
-use Rattle.memory.specs.Bits.{◌AND◌, ◌OR◌, ◌<<◌, ◌>>◌, low_clear}
-use Rattle.split.specs.Places.{attribute_address, attribute_shift, attribute_bits, pattern_offset}
+use Rattle.memory.specs.Bits.{◌AND◌, ◌OR◌, ◌<<◌, ◌>>◌}
+use Rattle.split.specs.Places.{attribute_address, attribute_shift, attribute_bits, low_three_clear, pattern_offset}
 
 -- The attribute place
 
@@ -53,11 +53,11 @@ shifted_out byte shift h k = ap (λ (n : ℕ). n % 4) (div-eq_of_lt (lt_of_lt_of
 pub pattern_digits : (bank addr scroll : ℕ) → pattern_offset bank addr scroll ≡ bank * 4096 + addr / 8 % 512 * 8 + scroll % 8
 unfolding pattern_offset
 pattern_digits bank addr scroll =
-    let line : low_clear addr 3 OR (scroll AND 7) ≡ addr / 8 * 8 + scroll % 8 =
-    ap (λ (n : ℕ). low_clear addr 3 OR n) (and_mask scroll 3) ∙ or_shifted (addr / 8) 3 (scroll % 8) (omega arith)
+    let line : low_three_clear addr OR (scroll AND 7) ≡ addr / 8 * 8 + scroll % 8 =
+    ap (λ (n : ℕ). low_three_clear addr OR n) (and_mask scroll 3) ∙ or_shifted (addr / 8) 3 (scroll % 8) (omega arith)
     in
-    let low : (low_clear addr 3 OR (scroll AND 7)) AND 0xFFF ≡ addr / 8 % 512 * 8 + scroll % 8 =
-    and_mask (low_clear addr 3 OR (scroll AND 7)) 12 ∙ (ap (λ (n : ℕ). n % 4096) line ∙ omega arith)
+    let low : (low_three_clear addr OR (scroll AND 7)) AND 0xFFF ≡ addr / 8 % 512 * 8 + scroll % 8 =
+    and_mask (low_three_clear addr OR (scroll AND 7)) 12 ∙ (ap (λ (n : ℕ). n % 4096) line ∙ omega arith)
     in
     ap (λ (n : ℕ). (bank << 12) OR n) low
     ∙ (or_shifted bank 12 (addr / 8 % 512 * 8 + scroll % 8) (omega arith) ∙ omega arith)

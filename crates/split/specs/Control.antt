@@ -1,7 +1,7 @@
 -- The split's registers, when it is active, and what its state may be.
-use Rattle.std.specs.Prelude.{ℕ, Bool, false, ◌&&◌, leb}
+use Rattle.std.specs.Prelude.{ℕ, ◌%◌, Bool, false, ◌&&◌, leb}
 use Rattle.split.specs.declared.VSplit.{VSplit}
-use Rattle.memory.specs.Bits.{bit_set, low_bits}
+use Rattle.memory.specs.Bits.{bit_set}
 
 -- 01, module 10: "all else 0, off, none or sprite"; the Rust's side after load is the left one.
 abbrev pub split_at_load : VSplit
@@ -10,7 +10,7 @@ split_at_load = record { mode = 0; enabled = false; right = false; tile = 0; scr
 -- $5200, in the Rust: "[ES.T TTTT] Split control", E enables, S set is the right side, T is the tile to split at.
 abbrev pub with_control : VSplit → ℕ → VSplit
 with_control v n =
-    record { mode = n; enabled = bit_set n 7; right = bit_set n 6; tile = low_bits n 5; scroll = v.scroll; bank = v.bank; in_region = v.in_region; tile_addr = v.tile_addr }
+    record { mode = n; enabled = bit_set n 7; right = bit_set n 6; tile = n % 32; scroll = v.scroll; bank = v.bank; in_region = v.in_region; tile_addr = v.tile_addr }
 
 -- $5201, in the Rust: "[YYYY YYYY] Split Y scroll".
 abbrev pub with_scroll : VSplit → ℕ → VSplit

@@ -1,15 +1,18 @@
 -- Nametables (specs/Names.antt): what a fetch answers behind an open gate, first what is served in the page's place, then by the selector that was
 -- written to $5105.
-use Prim.Native.Nat.{ℕ, zero, suc, ◌+◌, ◌-◌, ◌/◌, ◌%◌, ◌<◌}
+use Prim.Native.Nat.{ℕ, zero, suc, ◌+◌, ◌*◌, ◌-◌, ◌/◌, ◌%◌, ◌^◌, ◌<◌}
 use mathlib.Core.Bool.{Bool, true, false, ◌&&◌}
 use mathlib.Core.List.{List}
-use mathlib.Core.Path.{◌≡◌, refl}
-use native.Mathlib.Nat.{zero-add}
+use mathlib.Core.Path.{◌≡◌, refl, ap, ◌∙◌}
+use native.Mathlib.Nat.{zero-add, pow-suc}
 use native.Mathlib.Omega.{arith}
 use borrow.Author.Tests.{lt-ltb, lt-leb}
+use lib.Bits.{and_mask}
 use lib.Dec.{eqb}
 use lib.ListN.{length}
+use lib.Pow.{pow-add}
 use Rattle.memory.specs.declared.PageWord.{PageWord}
+use Rattle.memory.specs.Bits.{◌>>◌}
 use Rattle.memory.specs.Bytes.{Mem, byte_at}
 use Rattle.memory.specs.PageWords.{word, word_number, page_of}
 use Rattle.memory.specs.Tests.{pick}
@@ -19,7 +22,7 @@ use Rattle.registers.specs.Registers.{attribute_use, nametable_use, written}
 use Rattle.banks.specs.Names.{selector, name_page, names_mapped}
 use Rattle.scanline.specs.Fetches.{counted_at, name_at}
 use Rattle.scanline.specs.Ranges.{counter_refused}
-use Rattle.split.specs.Places.{attribute_address, attribute_shift, pattern_offset}
+use Rattle.split.specs.Places.{mirrored_byte, attribute_address, attribute_shift, pattern_offset}
 use Rattle.cpu.specs.Chosen.{chosen}
 use Rattle.cpu.specs.Reads.{page_answer}
 use Rattle.cpu.specs.Writes.{chr_pages_after, register_written}
@@ -41,6 +44,10 @@ use Rattle.theorems_bytes.proofs.Behind.{entry_inside}
 
 -- Served in the page's place -------------------------------------------------------------------------------------------------------------
 
+mirrored_low : (n : ℕ) → mirrored_byte (n % 4) ≡ mirrored_byte n
+unfolding mirrored_byte
+mirrored_low n = let e : n % 4 % 4 ≡ n % 4 = omega arith in rw e
+
 low_uncounted : (a : ℕ) → a < 0x2000 → counted_at a ≡ false
 low_uncounted a h = rw (lt-leb 0x2000 a h)
 
@@ -54,7 +61,7 @@ unfolding counted_served split_byte pattern_call pattern_served direct pattern_o
 served_bytes =
     record {
       split_name = λ s m h a c n f q. let e = fetch-counted s m h.opened a f c in rw (e, rw e at q, n);
-      split_attribute = λ s m h a c n f q. let e = fetch-counted s m h.opened a f c in rw (e, rw e at q, n);
+      split_attribute = λ s m h a c n f q. let e = fetch-counted s m h.opened a f c in rw (e, rw e at q, n) (ap Served (mirrored_low _));
       split_pattern = λ s m h a l q. rw (patterned s m a h.opened l, q);
       attribute = λ s m h a c n f q u t. let e = fetch-counted s m h.opened a f c in rw (e, rw e at q, rw e at u, n, rw e at t);
       attribute_pattern = λ s m h a l q u t. rw (patterned s m a h.opened l, q, u, t);
@@ -62,10 +69,16 @@ served_bytes =
 
 -- By selector ----------------------------------------------------------------------------------------------------------------------------
 
--- The selector of an address is that of its page.
+four_powers : (k : ℕ) → 2 ^ (2 * k) ≡ 4 ^ k
+four_powers zero = refl
+four_powers (suc k) =
+    let e : 2 * suc k ≡ 2 * k + 2 = omega arith in
+    rw (e, pow-add 2 (2 * k) 2, four_powers k, pow-suc 4 k)
+
+-- Module 3's two bits by shift and mask are the digit to base four.
 selector_is : (v a : ℕ) → selector_at v a ≡ selector v (a / 1024)
 unfolding selector
-selector_is v a = refl
+selector_is v a = and_mask (v >> (2 * (a / 1024 % 4))) 2 ∙ ap (λ (n : ℕ). v / n % 4) (four_powers (a / 1024 % 4))
 
 selector_small : (v i : ℕ) → selector v i < 4
 unfolding selector

@@ -13,7 +13,6 @@ use Rattle.memory.specs.declared.Page.{Page}
 use Rattle.memory.specs.declared.PageWord.{PageWord}
 use Rattle.memory.specs.declared.Src.{Src}
 use Rattle.memory.specs.declared.Src.TheVariants.{PrgRom, PrgRam}
-use Rattle.memory.specs.Bits.{bit_set}
 use Rattle.memory.specs.Bytes.{Mem, byte_at, stored_at, page_stored}
 use Rattle.memory.specs.PageWords.{word, page, page_of}
 use Rattle.memory.specs.Tests.{pick}
@@ -66,7 +65,7 @@ eight_mapped f i d h = row_mapped f 0 8 i d h ∙ ap f (omega arith)
 
 -- The page of a window that shows a value.
 unfoldable value_page : ℕ → ℕ → Bool → ℕ → ℕ → Page
-value_page prg ram writable v i = pick (bit_set v 7) (window_page PrgRom prg 8192 (v % 128) false i) (window_page PrgRam ram 8192 (v % 8) writable i)
+value_page prg ram writable v i = pick (leb 128 v) (window_page PrgRom prg 8192 (v % 128) false i) (window_page PrgRam ram 8192 (v % 8) writable i)
 
 -- The lengths as far as this asks.
 record Sized (prg ram : ℕ) : Type 0 where
@@ -78,7 +77,7 @@ record Sized (prg ram : ℕ) : Type 0 where
 value_page_lem : (prg ram : ℕ) → Sized prg ram → (writable : Bool) (v i : ℕ) → i < 8 → page_of (get_or (prg_value_pages prg ram writable v) i (word 0)) ≡ value_page prg ram writable v i
 unfolding prg_value_pages value_page
 value_page_lem prg ram z writable v i h =
-    split (bit_set v 7)
+    split (leb 128 v)
     (λ t. rw (t, eight_mapped (window_word PrgRom prg (v % 128) false) i (word 0) h) (rom_page prg 8192 (v % 128) i z.prg_whole z.prg_most))
     (λ t. rw (t, eight_mapped (window_word PrgRam ram (v % 8) writable) i (word 0) h) (ram_page ram 8192 (v % 8) i writable z.ram_whole z.ram_most))
 
@@ -123,7 +122,7 @@ module _ (m : Mem) (o a : ℕ) (low : a % 1024 ≡ o % 1024) where
       → page_answer m (value_page (length m.prg) (length m.ram) writable v (o / 1024)) a ≡ value_byte m v o
   unfolding value_page page_answer byte_at
   value_answers z writable v =
-      split (bit_set v 7)
+      split (leb 128 v)
       (λ t. rw t (bank_answers PrgRom m.prg (v % 128) false (λ _. refl) z.prg_whole))
       (λ t. rw t (bank_answers PrgRam m.ram (v % 8) writable (λ _. refl) z.ram_whole))
 
@@ -149,10 +148,10 @@ module _ (m : Mem) (o a : ℕ) (low : a % 1024 ≡ o % 1024) where
 
   value_stored : Sized (length m.prg) (length m.ram) → (writable : Bool) (v n : ℕ)
       → let p = value_page (length m.prg) (length m.ram) writable v (o / 1024) in
-      page_answer (page_stored m p a n) p a ≡ pick (not (bit_set v 7) && (writable && leb 1 (length m.ram))) (FromPage n) (page_answer m p a)
+      page_answer (page_stored m p a n) p a ≡ pick (not (leb 128 v) && (writable && leb 1 (length m.ram))) (FromPage n) (page_answer m p a)
   unfolding value_page
   value_stored z writable v n =
-      split (bit_set v 7)
+      split (leb 128 v)
       (λ t. rw (t, locked_keeps PrgRom (length m.prg) (v % 128) n))
       (λ t. rw t (ram_stored (v % 8) writable n z.ram_whole))
 
@@ -223,7 +222,7 @@ module _ (s : State) (m : Mem) (k : Mapped s m) where
 
   window_written : (w o n : ℕ) → w < 5 → o < 8192
       → read_at (cpu_write s m (in_window w o) n) (in_window w o)
-      ≡ pick (not (bit_set (value_at s w) 7) && (unlocked s.regs && leb 1 (length m.ram))) (FromPage n) (cpu_read s m (in_window w o)).answer
+      ≡ pick (not (leb 128 (value_at s w)) && (unlocked s.regs && leb 1 (length m.ram))) (FromPage n) (cpu_read s m (in_window w o)).answer
   window_written w o n hw ho =
       let a = in_window w o in
       let h : 0x6000 ≤ a = omega arith in

@@ -1,11 +1,11 @@
 -- CHR: what a pattern fetch answers after a write to a register that maps CHR. Assumes that the board is taken (Taken.antt).
 use Rattle.std.specs.Prelude.{ℕ, ◌+◌, ◌-◌, ◌*◌, ◌/◌, ◌%◌, ◌^◌, ◌<◌, Bool, true, false, ◌&&◌, not, ◌≡◌, get_or}
-use Rattle.memory.specs.Bits.{◌OR◌, ◌<<◌, low_bits}
+use Rattle.memory.specs.Bits.{◌OR◌, ◌<<◌}
 use Rattle.memory.specs.Bytes.{Mem}
 use Rattle.memory.specs.Tests.{pick}
 use Rattle.registers.specs.Registers.{attribute_use}
 use Rattle.scanline.specs.Tiles.{sprite_fetch}
-use Rattle.banks.specs.Chr.{background}
+use Rattle.banks.specs.Chr.{Asked, background}
 use Rattle.cpu.specs.Writes.{maps_chr}
 use Rattle.ppu.specs.Served.{split_serves}
 use Rattle.state.specs.declared.State.{State}
@@ -32,4 +32,4 @@ pub record ChrBytes : Type 0 where
   -- after a write to $5101, $5120-$512B or $5130 a pattern fetch answers CHR at its page, number mod pages
   pub pattern : (s : State) (m : Mem) → Taken s m → (r v : ℕ) → maps_chr r ≡ true → (a : ℕ) → a < 0x2000
       → let x = cpu_write s m r v in unserved x.out.state
-      → fetch_at x a ≡ byte_of x.mem.chr (page_number x.out.state (a / 1024) * 1024 + low_bits a 10)
+      → fetch_at x a ≡ byte_of x.mem.chr (page_number x.out.state (a / 1024) * 1024 + a % 1024)

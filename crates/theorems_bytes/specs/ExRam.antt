@@ -1,6 +1,5 @@
 -- ExRAM from the CPU, by its mode; and that reset maps nothing. Assumes that the board is taken (Taken.antt).
-use Rattle.std.specs.Prelude.{ℕ, ◌+◌, ◌<◌, false, List, ◌≡◌, eqb, ltb, get_or, set}
-use Rattle.memory.specs.Bits.{low_bits}
+use Rattle.std.specs.Prelude.{ℕ, ◌+◌, ◌%◌, ◌<◌, false, List, ◌≡◌, eqb, ltb, get_or, set}
 use Rattle.memory.specs.Bytes.{Mem}
 use Rattle.memory.specs.Tests.{pick}
 use Rattle.answers.specs.declared.Answer.TheVariants.{Page, Blank}
@@ -18,10 +17,10 @@ stored mode s exram o n = pick (ltb mode 2) (set exram o (pick s.ppu.rendering n
 pub record ExRamBytes : Type 0 where
   -- after $5104 = v the mode is v's two low bits. Module 3: "CPU read in 2, 3"
   pub read : (s : State) (m : Mem) → Taken s m → (v o : ℕ) → o < 1024
-      → let x = cpu_write s m 0x5104 v in read_at x (0x5C00 + o) ≡ pick (ltb (low_bits v 2) 2) Blank (Page (get_or x.mem.exram o 0))
+      → let x = cpu_write s m 0x5104 v in read_at x (0x5C00 + o) ≡ pick (ltb (v % 4) 2) Blank (Page (get_or x.mem.exram o 0))
   pub write : (s : State) (m : Mem) → Taken s m → (v o n : ℕ) → o < 1024
       → let x = cpu_write s m 0x5104 v in
-      (cpu_write x.out.state x.mem (0x5C00 + o) n).mem.exram ≡ stored (low_bits v 2) x.out.state x.mem.exram o n
+      (cpu_write x.out.state x.mem (0x5C00 + o) n).mem.exram ≡ stored (v % 4) x.out.state x.mem.exram o n
 
 pub record ResetMapsNothing : Type 0 where
   -- module 10: "Reset sets modes 8k and 1k and maps nothing": every byte is read as before, but the two modes

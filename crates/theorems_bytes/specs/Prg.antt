@@ -1,6 +1,5 @@
 -- PRG: what the CPU reads at $6000-$FFFF after a write to a register that maps PRG. Assumes that the board is taken (Taken.antt).
-use Rattle.std.specs.Prelude.{ℕ, ◌+◌, ◌*◌, ◌<◌, true, ◌&&◌, not, ◌≡◌, leb, get_or, length}
-use Rattle.memory.specs.Bits.{bit_set, low_bits}
+use Rattle.std.specs.Prelude.{ℕ, ◌+◌, ◌*◌, ◌%◌, ◌<◌, true, ◌&&◌, not, ◌≡◌, leb, get_or, length}
 use Rattle.memory.specs.Bytes.{Mem}
 use Rattle.memory.specs.Tests.{pick}
 use Rattle.answers.specs.declared.Answer.{Answer}
@@ -22,7 +21,7 @@ value_at s w = get_or (prg_values s.regs.prg_mode s.prg_banks) w 0
 
 -- Module 4: "bit 7 set means ROM with seven bits, clear means RAM with three."
 abbrev pub value_byte : Mem → ℕ → ℕ → Answer
-value_byte m v o = pick (bit_set v 7) (bank_byte m.prg (low_bits v 7) o) (bank_byte m.ram (low_bits v 3) o)
+value_byte m v o = pick (leb 128 v) (bank_byte m.prg (v % 128) o) (bank_byte m.ram (v % 8) o)
 
 pub record PrgBytes : Type 0 where
   -- after a write to $5100, $5102, $5103 or $5113-$5117 each window answers the bytes of the bank that its value names, in every mode
@@ -35,4 +34,4 @@ pub record PrgBytes : Type 0 where
   pub ram_write : (s : State) (m : Mem) → Taken s m → (r v : ℕ) → maps_prg r ≡ true → (w o n : ℕ) → w < 5 → o < 8192
       → let x = cpu_write s m r v in let y = cpu_write x.out.state x.mem (in_window w o) n in
       read_at y (in_window w o)
-      ≡ pick (not (bit_set (value_at x.out.state w) 7) && (unlocked x.out.state.regs && leb 1 (length x.mem.ram))) (Page n) (read_at x (in_window w o))
+      ≡ pick (not (leb 128 (value_at x.out.state w)) && (unlocked x.out.state.regs && leb 1 (length x.mem.ram))) (Page n) (read_at x (in_window w o))

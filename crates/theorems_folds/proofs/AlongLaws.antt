@@ -35,7 +35,7 @@ use Rattle.theorems_histories.specs.Histories.{Load, first, Reached}
 use Rattle.theorems_histories.specs.Watching.{view, event}
 use Rattle.theorems_histories.proofs.Along.{open_along, at_first, told_along}
 use Rattle.theorems_histories.proofs.Behind.{exactly}
-use Rattle.theorems_folds.specs.Full.{kept_state, kept_board, full_counted, full_called, full_says, full_leaves, full_after}
+use Rattle.theorems_folds.specs.Full.{kept_state, kept_board, full_seen, full_counted, full_called, full_says, full_leaves, full_after}
 use Rattle.theorems_folds.specs.Along.{AlongFull, RustReaches}
 use Rattle.theorems_folds.proofs.SameLaws.{same_board}
 
@@ -86,7 +86,7 @@ abbrev seen : State → Watched
 seen s = record { detector = s.irq; tiles = s.ppu.tile_number }
 
 made_counts : (c : Call) (s : State) (m : Mem) → (full_called c s m).out.state.ppu.tile_number ≡ tiles_by (seen s) (event (call c))
-unfolding tiles_by register_written full_counted seen_at pattern_call chosen
+unfolding tiles_by register_written full_counted full_seen seen_at pattern_call chosen
 made_counts Clock s m = refl
 made_counts (CpuRead a) s m = refl
 made_counts (CpuWrite a v) s m = choice_tiles s.ppu s.irq.in_frame a.0

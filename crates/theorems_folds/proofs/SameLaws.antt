@@ -11,7 +11,6 @@ use Rattle.answers.specs.declared.Answer.{Answer}
 use Rattle.registers.specs.declared.Regs.{Regs}
 use Rattle.scanline.specs.declared.Detector.{Detector}
 use Rattle.scanline.specs.Fetches.{counted_at, name_at}
-use Rattle.scanline.specs.Steps.{seen_at}
 use Rattle.scanline.specs.Tiles.{fold, raised_by, left_after}
 use Rattle.scanline.proofs.FoldLaws.{turns, four_looks}
 use Rattle.split.specs.declared.VSplit.{VSplit}
@@ -25,13 +24,15 @@ use Rattle.cpu.specs.Reads.{cpu_answer, audio_read}
 use Rattle.cpu.specs.Writes.{register_written, cpu_stored}
 use Rattle.cpu.specs.PpuRegisters.{status_after}
 use Rattle.ppu.specs.Cache.{cache_after}
+use Rattle.ppu.specs.Fetches.{ppu_seen, split_seen}
 use Rattle.ppu.specs.Served.{counted_served, pattern_served}
 use Rattle.board.specs.declared.Outcome.{Outcome}
 use Rattle.board.specs.CpuSide.{cpu_peek}
 use Rattle.board.specs.Outcomes.{outcome, After, after_of}
 use Rattle.board.specs.StateCalls.{mirroring_call, interrupt_call}
-use Rattle.board_ppu.specs.Fetch.{tile_counted, tile_cached, line_seen, split_moved, answered, counted_call, pattern_pages, pattern_call}
+use Rattle.board_ppu.specs.Fetch.{counted_call, pattern_pages, pattern_call}
 use Rattle.board_ppu.specs.Peeks.{ppu_peek, sprite_peek}
+use Rattle.board_ppu.proofs.Made.{counted_by_groups}
 use Rattle.views.specs.Views.{cpu_view, ppu_view}
 use Rattle.trace.specs.declared.Call.{Call}
 use Rattle.trace.specs.declared.Call.TheVariants.{Clock, CpuRead, CpuWrite, PpuRegister, PpuFetch, Reset, PpuWrite}
@@ -44,7 +45,7 @@ use Rattle.theorems_histories.specs.Boards.Made.{call, peek, ppu_peek_lem, sprit
 use Rattle.theorems_histories.specs.Boards.Said.{answers}
 use Rattle.theorems_histories.specs.Watching.{view}
 use Rattle.theorems_histories.proofs.Behind.{fetched, done, unmet, is_done}
-use Rattle.theorems_folds.specs.Full.{kept_status, kept_state, kept_board, tile_counted_full, full_counted, full_fetch, full_called, full_peek, full_says, full_leaves}
+use Rattle.theorems_folds.specs.Full.{kept_status, kept_state, kept_board, full_seen, full_counted, full_fetch, full_called, full_peek, full_says, full_leaves}
 use Rattle.theorems_folds.specs.Same.{SameBoard}
 
 -- The count -------------------------------------------------------------------------------------------------------------------------------
@@ -61,6 +62,10 @@ left m n = split (leb 2 m) (λ t. rw t (sym (turns.exact 0 (omega arith)))) (λ 
 cache : (g : Regs) (cached n a : ℕ) → cache_after g cached (fold n) a ≡ cache_after g cached n a
 unfolding cache_after
 cache g cached n a = rw (four_looks.sprite_fetch_call n)
+
+split_same : (g : Regs) (v : VSplit) (d : Detector) (n a : ℕ) → split_seen g v d (fold n) a ≡ split_seen g v d n a
+unfolding split_seen
+split_same g v d n a = rw (four_looks.column n, four_looks.forty n, four_looks.forty_two n)
 
 counted : (g : Regs) (v : VSplit) (framed : Bool) (p : PpuStatus) (exram : List ℕ) (a : ℕ) (page : Answer)
     → counted_served g v framed (kept_status p) exram a page ≡ counted_served g v framed p exram a page
@@ -89,39 +94,18 @@ register : (p : PpuStatus) (a v : ℕ) → status_after (kept_status p) a v ≡ 
 unfolding status_after
 register p a v = split (eqb a 0x2000) (λ t. rw t) (λ t. rw t (split (eqb a 0x2001) (λ u. rw u) (λ u. rw u)))
 
+seen : (g : Regs) (m : ℕ) (p : PpuStatus) (a : ℕ) → ppu_seen g m (kept_status p) a ≡ kept_status (full_seen g m p a)
+unfolding ppu_seen full_seen
+seen g m p a = let n = p.tile_number in rw (raised n a, left m (raised_full n a), cache g p.tile_cache (raised_full n a) a)
+
 -- The calls ---------------------------------------------------------------------------------------------------------------------------------
 
 abbrev kept_outcome : Outcome → Outcome
 kept_outcome o = outcome o.answer (kept_state o.state)
 
--- a fetch at $2000-$3EFF: its five steps, one after the other
-module _ (s : State) (a : ℕ) where
-  count_step : tile_counted (kept_state s) a ≡ kept_state (tile_counted_full s a)
-  count_step = rw (raised s.ppu.tile_number a)
-
-  cache_step : tile_cached (kept_state s) a ≡ kept_state (tile_cached s a)
-  cache_step = rw (cache s.regs s.ppu.tile_cache s.ppu.tile_number a)
-
-  line_step : line_seen (kept_state s) a ≡ kept_state (line_seen s a)
-  line_step = rw (left (seen_at s.irq a).match_count s.ppu.tile_number)
-
-  split_step : split_moved (kept_state s) a ≡ kept_state (split_moved s a)
-  split_step = let n = s.ppu.tile_number in rw (four_looks.column n, four_looks.forty n, four_looks.forty_two n)
-
-  answer_step : (m : Mem) → answered (kept_state s) m a ≡ kept_outcome (answered s m a)
-  answer_step m = rw (counted s.regs s.vsplit s.irq.in_frame s.ppu m.exram a _)
-
 counted_fetch : (s : State) (m : Mem) (a : ℕ) → counted_call (kept_state s) m a ≡ kept_outcome (full_counted s m a)
-unfolding counted_call full_counted
-counted_fetch s m a =
-    let s₁ = tile_counted_full s a in
-    let s₂ = tile_cached s₁ a in
-    let s₃ = line_seen s₂ a in
-    ap (λ (x : State). answered (split_moved (line_seen (tile_cached x a) a) a) m a) (count_step s a)
-    ∙ ap (λ (x : State). answered (split_moved (line_seen x a) a) m a) (cache_step s₁ a)
-    ∙ ap (λ (x : State). answered (split_moved x a) m a) (line_step s₂ a)
-    ∙ ap (λ (x : State). answered x m a) (split_step s₃ a)
-    ∙ answer_step (split_moved s₃ a) a m
+unfolding full_counted
+counted_fetch s m a = rw (counted_by_groups (kept_state s) m a, seen s.regs _ s.ppu a, split_same s.regs s.vsplit _ _ a, counted s.regs _ _ _ m.exram a _)
 
 pattern_fetch : (s : State) (m : Mem) (a : ℕ) → pattern_call (kept_state s) m a ≡ kept_outcome (pattern_call s m a)
 unfolding pattern_call pattern_pages
@@ -177,15 +161,14 @@ module _ (b : Board) (h : gate_mem (kept_state b.state) b.mem ≡ Open) where
 
 pub same_board : SameBoard
 same_board = record {
-  raised = raised;
-  zeroed = left;
   cache = cache;
-  split = split_step;
+  split = split_same;
   counted = counted;
   pattern = pattern;
   choice = choice;
   write = write;
   register = register;
+  seen = seen;
   said = λ b c h e. said b h c e;
   left = λ b c h e. left_kept b h c e;
 }

@@ -12,6 +12,7 @@ use Rattle.split.specs.Region.{side_at, region_at, split_address, after_name}
 use Rattle.state.specs.declared.State.{State}
 use Rattle.cpu.specs.Groups.{split_after, irq_after}
 use Rattle.cpu.specs.Writes.{register_written}
+use Rattle.ppu.specs.Fetches.{split_seen}
 use Rattle.board.specs.Loads.{loaded_state, load_call}
 use Rattle.theorems_scanlines.specs.Machine.{tiles_by, watched}
 use Rattle.theorems_scanlines.specs.Run.{step, run}
@@ -24,7 +25,7 @@ use Rattle.theorems_histories.specs.Shorthand.{in_turn}
 use Rattle.theorems_histories.specs.Waits.{smallest}
 use Rattle.theorems_histories.proofs.Along.{are_reached}
 use Rattle.theorems_histories.proofs.Waited.{waits}
-use Rattle.theorems_folds.specs.Full.{full_counted, full_leaves, full_after}
+use Rattle.theorems_folds.specs.Full.{full_seen, full_counted, full_leaves, full_after}
 use Rattle.theorems_folds.specs.Worked.{calls, Worked}
 use Rattle.theorems_folds.proofs.AlongLaws.{along_full}
 
@@ -42,15 +43,15 @@ loaded = record { mem = smallest; as_ram = false; mirroring = Horizontal; accept
 abbrev split_of : State → Bool × ℕ
 split_of s = (s.vsplit.in_region, s.vsplit.tile_addr)
 
-full_split : split_of (full_after (first loaded) (calls 84)).state ≡ (true, 34)
-unfolding loaded load_call loaded_state full_after full_leaves full_counted register_written written split_after irq_after column_of is_prefetched is_first side_at region_at split_address after_name again matches_after is_line meets seen_at in_turn
-full_split = refl
+full_split_lem : split_of (full_after (first loaded) (calls 84)).state ≡ (true, 34)
+unfolding loaded load_call loaded_state full_after full_leaves full_counted full_seen register_written written split_after irq_after split_seen column_of is_prefetched is_first side_at region_at split_address after_name again matches_after is_line meets seen_at in_turn
+full_split_lem = refl
 
 pub worked : Worked
 unfolding fold loaded
 worked =
     let r = are_reached loaded (calls 84) take_them in
-    let same = ap (λ (x : Board). split_of x.state) (along_full.board loaded (calls 84) r.0 r.1) ∙ full_split in (
+    let same = ap (λ (x : Board). split_of x.state) (along_full.board loaded (calls 84) r.0 r.1) ∙ full_split_lem in (
       loaded,
       refl,
       (
@@ -61,7 +62,7 @@ worked =
           kept = along_full.tiles loaded (calls 84) r.0 r.1 ∙ ap fold full_count;
           region = ap (λ (x : Bool × ℕ). x.0) same;
           address = ap (λ (x : Bool × ℕ). x.1) same;
-          full_address = ap (λ (x : Bool × ℕ). x.1) full_split;
+          full_address = ap (λ (x : Bool × ℕ). x.1) full_split_lem;
         },
       ),
     )

@@ -8,20 +8,24 @@ use Rattle.memory.specs.Tests.{pick}
 use Rattle.memory.specs.PageWords.{page_of}
 use Rattle.answers.specs.declared.Answer.{Answer}
 use Rattle.answers.specs.declared.Answer.TheVariants.{Nothing, Served}
+use Rattle.registers.specs.declared.Regs.{Regs}
 use Rattle.scanline.specs.Fetches.{counted_at}
-use Rattle.scanline.specs.Steps.{interrupt_up}
-use Rattle.scanline.specs.Tiles.{fold}
+use Rattle.scanline.specs.Steps.{seen_at, interrupt_up}
+use Rattle.scanline.specs.Tiles.{fold, left_after}
+use Rattle.split.specs.declared.VSplit.{VSplit}
 use Rattle.state.specs.declared.PpuStatus.{PpuStatus}
 use Rattle.state.specs.declared.State.{State}
-use Rattle.state.specs.With.{with_ppu, with_tile_number}
+use Rattle.state.specs.With.{with_irq, with_ppu, with_vsplit}
 use Rattle.cpu.specs.Reads.{cpu_answer}
 use Rattle.cpu.specs.Writes.{prg_word_at}
+use Rattle.ppu.specs.Cache.{cache_after}
+use Rattle.ppu.specs.Fetches.{split_seen}
 use Rattle.ppu.specs.Served.{counted_served, pattern_served, sprite_byte}
 use Rattle.board.specs.declared.Outcome.{Outcome}
 use Rattle.board.specs.declared.InterruptAnswer.TheVariants.{Up, Down}
 use Rattle.board.specs.declared.MirroringAnswer.TheVariants.{Is}
 use Rattle.board.specs.Outcomes.{outcome, After}
-use Rattle.board_ppu.specs.Fetch.{tile_cached, line_seen, split_moved, answered, pattern_call}
+use Rattle.board_ppu.specs.Fetch.{pattern_call}
 use Rattle.board_ppu.specs.Peeks.{chr_word_at, chr_answer}
 use Rattle.views.specs.Views.{cpu_shows, ppu_shows}
 use Rattle.trace.specs.declared.Call.{Call}
@@ -33,7 +37,8 @@ use Rattle.theorems_histories.specs.Done.{done_with}
 
 -- What is kept of it: all, and of the count its fold.
 abbrev pub kept_status : PpuStatus → PpuStatus
-kept_status p = with_tile_number p (fold p.tile_number)
+kept_status p =
+    record { tile_number = fold p.tile_number; tile_cache = p.tile_cache; sprite8x16 = p.sprite8x16; rendering = p.rendering; bg_set = p.bg_set; bg_written = p.bg_written }
 
 abbrev pub kept_state : State → State
 kept_state s = with_ppu s (kept_status s.ppu)
@@ -41,12 +46,30 @@ kept_state s = with_ppu s (kept_status s.ppu)
 abbrev pub kept_board : Board → Board
 kept_board b = record { state = kept_state b.state; mem = b.mem }
 
--- A fetch at $2000-$3EFF is the board's own five steps but for the first. 01, "Fetches, runs, breaks": "tile count + 1 for a name fetch to $2FFF"
-abbrev pub tile_counted_full : State → ℕ → State
-tile_counted_full s a = with_ppu s (with_tile_number s.ppu (raised_full s.ppu.tile_number a))
+-- 01, "Fetches, runs, breaks": "tile count + 1 for a name fetch to $2FFF; tile cache ..; run and line (third and later equals zero the tile count)". It is
+-- `ppu_seen` with `raised_full` for `raised_by`.
+unfoldable pub full_seen : Regs → ℕ → PpuStatus → ℕ → PpuStatus
+full_seen g m p a =
+    record {
+      tile_number = left_after m (raised_full p.tile_number a);
+      tile_cache = cache_after g p.tile_cache (raised_full p.tile_number a) a;
+      sprite8x16 = p.sprite8x16;
+      rendering = p.rendering;
+      bg_set = p.bg_set;
+      bg_written = p.bg_written;
+    }
+
+-- A fetch at $2000-$3EFF: what it leaves in the groups, and its answer by these.
+abbrev pub full_ppu : State → ℕ → PpuStatus
+full_ppu s a = full_seen s.regs (seen_at s.irq a).match_count s.ppu a
+
+abbrev pub full_split : State → ℕ → VSplit
+full_split s a = split_seen s.regs s.vsplit (seen_at s.irq a) (full_ppu s a).tile_number a
 
 unfoldable pub full_counted : State → Mem → ℕ → Outcome
-full_counted s m a = answered (split_moved (line_seen (tile_cached (tile_counted_full s a) a) a) a) m a
+full_counted s m a =
+    outcome (counted_served s.regs (full_split s a) (seen_at s.irq a).in_frame (full_ppu s a) m.exram a (chr_answer s.chr_pages m a))
+    (with_vsplit (with_ppu (with_irq s (seen_at s.irq a)) (full_ppu s a)) (full_split s a))
 
 abbrev pub full_fetch : State → Mem → ℕ → Outcome
 full_fetch s m a =

@@ -5,30 +5,25 @@ use Rattle.std.specs.Prelude.{ℕ, Bool, List, ◌≡◌}
 use Rattle.answers.specs.declared.Answer.{Answer}
 use Rattle.registers.specs.declared.Regs.{Regs}
 use Rattle.scanline.specs.declared.Detector.{Detector}
-use Rattle.scanline.specs.Tiles.{fold, raised_by, left_after}
+use Rattle.scanline.specs.Tiles.{fold}
 use Rattle.split.specs.declared.VSplit.{VSplit}
 use Rattle.state.specs.declared.gate.Gate.TheVariants.{Open}
 use Rattle.state.specs.declared.PpuStatus.{PpuStatus}
-use Rattle.state.specs.declared.State.{State}
 use Rattle.state.specs.Gate.{gate_mem}
 use Rattle.cpu.specs.Chosen.{chosen, ppu_after}
 use Rattle.cpu.specs.PpuRegisters.{status_after}
 use Rattle.ppu.specs.Cache.{cache_after}
+use Rattle.ppu.specs.Fetches.{ppu_seen, split_seen}
 use Rattle.ppu.specs.Served.{counted_served, pattern_served}
-use Rattle.board_ppu.specs.Fetch.{split_moved}
-use Rattle.theorems_scanlines.specs.Machine.{raised_full}
 use Rattle.theorems_histories.specs.Accepted.{refusal}
 use Rattle.theorems_histories.specs.Boards.{Board, Made, says, leaves}
 use Rattle.theorems_histories.specs.Watching.{view}
-use Rattle.theorems_folds.specs.Full.{kept_status, kept_state, kept_board, full_says, full_leaves}
+use Rattle.theorems_folds.specs.Full.{kept_status, kept_state, kept_board, full_seen, full_says, full_leaves}
 
 pub record SameBoard : Type 0 where
-  -- what changes the count: a name fetch, and a fetch after m equal ones
-  pub raised : (n a : ℕ) → raised_by (fold n) a ≡ fold (raised_full n a)
-  pub zeroed : (m n : ℕ) → left_after m (fold n) ≡ fold (left_after m n)
   -- what looks at the count
   pub cache : (g : Regs) (cached n a : ℕ) → cache_after g cached (fold n) a ≡ cache_after g cached n a
-  pub split : (s : State) (a : ℕ) → split_moved (kept_state s) a ≡ kept_state (split_moved s a)
+  pub split : (g : Regs) (v : VSplit) (d : Detector) (n a : ℕ) → split_seen g v d (fold n) a ≡ split_seen g v d n a
   pub counted : (g : Regs) (v : VSplit) (framed : Bool) (p : PpuStatus) (exram : List ℕ) (a : ℕ) (page : Answer)
       → counted_served g v framed (kept_status p) exram a page ≡ counted_served g v framed p exram a page
   pub pattern : (g : Regs) (v : VSplit) (d : Detector) (p : PpuStatus) (exram chr : List ℕ) (a : ℕ) (page : Answer)
@@ -37,6 +32,7 @@ pub record SameBoard : Type 0 where
   pub choice : (p : PpuStatus) (framed : Bool) → chosen (kept_status p) framed ≡ kept_status (chosen p framed)
   pub write : (p : PpuStatus) (framed : Bool) (a : ℕ) → ppu_after (kept_status p) framed a ≡ kept_status (ppu_after p framed a)
   pub register : (p : PpuStatus) (a v : ℕ) → status_after (kept_status p) a v ≡ kept_status (status_after p a v)
+  pub seen : (g : Regs) (m : ℕ) (p : PpuStatus) (a : ℕ) → ppu_seen g m (kept_status p) a ≡ kept_status (full_seen g m p a)
   -- and so each call: on what is kept of a full board, where it is accepted, the board says what the full board says, and leaves what is kept of what that
   -- leaves
   pub said : (b : Board) (c : Made) → gate_mem (kept_state b.state) b.mem ≡ Open → refusal (view b) c ≡ 0 → says (kept_board b) c ≡ full_says b c

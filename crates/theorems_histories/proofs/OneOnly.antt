@@ -1,4 +1,4 @@
--- A history has one result, and is one of the definitions: by induction over its calls.
+-- A history has one result: by induction over its calls.
 use mathlib.Core.Bool.{true}
 use mathlib.Core.List.{List, ◌∷◌}
 use mathlib.Core.Path.{◌≡◌, refl, sym, ◌∙◌, ap}
@@ -8,7 +8,6 @@ use Rattle.theorems_histories.specs.Histories.{Load, first, Reached}
 use Rattle.theorems_histories.specs.Accepted.{acceptable}
 use Rattle.theorems_histories.specs.Code.{Step, meant}
 use Rattle.theorems_histories.specs.Results.{Heard, said_along, OneResult}
-use Rattle.theorems_histories.specs.CodeHistories.{CodeHistories}
 use Rattle.theorems_histories.specs.Results.Heard.{at_load as heard-at-load, next}
 use Rattle.theorems_histories.proofs.Along.{are_reached}
 use Rattle.theorems_histories.proofs.Coded.{only, each}
@@ -51,7 +50,7 @@ one_result = record {
   answers = λ l cs said b h. answers_are l h;
   same_board = λ l cs said said' b b' h k. board_is l h ∙ sym (board_is l k);
   same_answers = λ l cs said said' b b' h k. answers_are l h ∙ sym (answers_are l k);
+  some_result = results;
+  is_reached = λ l cs said b h. to_reached l h;
+  is_heard = λ l cs b r. to_heard l r;
 }
-
-pub code_histories : CodeHistories
-code_histories = record { some_result = results; is_reached = λ l cs said b h. to_reached l h; is_heard = λ l cs b r. to_heard l r }

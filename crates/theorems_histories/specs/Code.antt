@@ -1,6 +1,6 @@
--- The code is the definitions' board. Demand 2: "answers, page tables and memory .. are proved equal to definitions". What is spoken of is each entry
--- point's own contract, as the prover reads it off the code: `Learnt` is what it allows, for the lifetimes κ, the arguments a, the result r and the
--- parameters e as they are at the exit.
+-- The code is the definitions' board. Demand 2: "answers, page tables and memory .. are proved equal to definitions"; demand 1: "Every call takes all
+-- inputs". What is spoken of is each entry point's own contract, as the prover reads it off the code: `Learnt` is what it allows, for the lifetimes κ,
+-- the arguments a, the result r and the parameters e as they are at the exit; `Asked` is what it asks of a caller.
 -- Assumes nothing.
 use Rattle.std.specs.Prelude.{true, ◌≡◌}
 use Rattle.memory.specs.Bytes.{Mem}
@@ -23,8 +23,10 @@ use Rattle.board_ppu.proofs.stores.ppu_write.Reads as board_ppu_write
 use Rattle.views.proofs.cpu_view.Reads as views_cpu_view
 use Rattle.views.proofs.ppu_view.Reads as views_ppu_view
 use Rattle.trace.specs.declared.Call.TheVariants.{Clock, CpuRead, CpuWrite, PpuRegister, PpuFetch, Reset, PpuWrite}
+use Rattle.trace.proofs.records.record_at.Reads as trace_record_at
 use Rattle.calls.specs.Lent.{mem_lent, behind_memory, mem_left}
 use Rattle.calls.proofs.call_on.Reads as calls_call_on
+use Rattle.player.proofs.replay.Reads as player_replay
 use Rattle.theorems_histories.specs.Boards.{Board, Made, Said, says, leaves, lent_as_recorded}
 use Rattle.theorems_histories.specs.Boards.Made.{call, peek, ppu_peek_lem, sprite_peek_lem, mirroring_asked, interrupt_asked, cpu_page, ppu_page}
 use Rattle.theorems_histories.specs.Boards.Said.{answers, mirrors, interrupts, shows}
@@ -81,3 +83,27 @@ pub record CodeIsTheBoard : Type 0 where
   -- what happens is what the definitions say, and each call that they speak of can happen
   pub only : (t : Step) → Happens t → t ≡ meant t.before t.made
   pub each : (b : Board) (c : Made) → Happens (meant b c)
+
+-- "Every call takes all inputs": nothing is asked of a caller.
+abbrev pub TakesAll : {K : Type 0} {A : K → Type 0} → ((κ : K) → A κ → Type 0) → Type 0
+TakesAll {K} {A} asked = (κ : K) (a : A κ) → asked κ a
+
+pub record EveryCallTakesAll : Type 0 where
+  pub load : TakesAll board_load.Asked
+  pub any : TakesAll calls_call_on.Asked
+  pub clock : TakesAll board_clock.Asked
+  pub read : TakesAll board_cpu_read.Asked
+  pub write : TakesAll board_cpu_write.Asked
+  pub register : TakesAll board_ppu_register.Asked
+  pub fetch : TakesAll board_ppu_fetch.Asked
+  pub reset : TakesAll board_reset.Asked
+  pub store : TakesAll board_ppu_write.Asked
+  pub peek : TakesAll board_cpu_peek.Asked
+  pub ppu_peek_call : TakesAll board_ppu_peek.Asked
+  pub sprite_peek_call : TakesAll board_sprite_peek.Asked
+  pub mirroring : TakesAll board_mirroring.Asked
+  pub interrupt_up : TakesAll board_interrupt_up.Asked
+  pub cpu_view : TakesAll views_cpu_view.Asked
+  pub ppu_view : TakesAll views_ppu_view.Asked
+  pub record_at : TakesAll trace_record_at.Asked
+  pub replay : TakesAll player_replay.Asked

@@ -2,7 +2,6 @@ pub mod Boards
 pub mod Watching
 pub mod Done
 pub mod Code
-pub mod Taking
 pub mod Shorthand
 pub mod Histories
 pub mod Accepted
@@ -10,5 +9,4 @@ pub mod Refusals
 pub mod Interrupts
 pub mod Waits
 pub mod Results
-pub mod CodeHistories
 pub mod Replays

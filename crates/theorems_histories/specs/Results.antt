@@ -2,9 +2,10 @@
 -- 01, "What each contract settles": "Any two results it allows are proved equal". A history is one of calls of the code: what each entry point's own
 -- contract allows (specs/Code.antt), one after the other.
 -- Assumes nothing.
-use Rattle.std.specs.Prelude.{◌≡◌, List, [], ◌∷◌}
+use Rattle.std.specs.Prelude.{◌≡◌, true, List, [], ◌∷◌}
 use Rattle.theorems_histories.specs.Boards.{Board, Made, Said, says, board_after, number}
-use Rattle.theorems_histories.specs.Histories.{Load, first}
+use Rattle.theorems_histories.specs.Histories.{Load, first, Reached}
+use Rattle.theorems_histories.specs.Accepted.{acceptable}
 use Rattle.theorems_histories.specs.Code.{Step, Happens}
 
 -- The calls cs were made one after the other from the load on, each on the board that the one before it left, and none was refused; they said
@@ -25,3 +26,8 @@ pub record OneResult : Type 0 where
   -- so two boards with the same load and the same calls are alike in all
   pub same_board : (l : Load) (cs : List Made) (said said' : List Said) (b b' : Board) → Heard l cs said b → Heard l cs said' b' → b ≡ b'
   pub same_answers : (l : Load) (cs : List Made) (said said' : List Said) (b b' : Board) → Heard l cs said b → Heard l cs said' b' → said ≡ said'
+  -- and calls that meet no refusal have a result
+  pub some_result : (l : Load) (cs : List Made) → acceptable cs ≡ true → Heard l cs (said_along l cs) (board_after (first l) cs)
+  -- these are the histories of demand 3
+  pub is_reached : (l : Load) (cs : List Made) (said : List Said) (b : Board) → Heard l cs said b → Reached l cs b
+  pub is_heard : (l : Load) (cs : List Made) (b : Board) → Reached l cs b → Heard l cs (said_along l cs) b

@@ -1,7 +1,7 @@
 -- 00, demand 1: "Every call takes all inputs, checks its own". A function that a host may call asks nothing of its caller: `Asked` is what a contract
 -- requires, as the prover reads it off the code. One line for each function exported to C, crate by crate.
 -- Assumes nothing.
-use Rattle.theorems_histories.specs.Taking.{TakesAll}
+use Rattle.theorems_histories.specs.Code.{TakesAll}
 use Rattle.host.proofs.clocks.mmc5_clock.Reads as clock
 use Rattle.host.proofs.writes.mmc5_cpu_write.Reads as cpu_write_lem
 use Rattle.host.proofs.fetches.mmc5_ppu_fetch.Reads as ppu_fetch_lem

@@ -5,9 +5,8 @@ use mathlib.Core.List.{List, [], ◌∷◌, map}
 use mathlib.Core.Path.{◌≡◌, refl}
 use native.Mathlib.Omega.{arith}
 use borrow.Author.Tests.{le-leb, lt-ltb, eq-eqb, eqb-true, eqb-false}
-use lib.Dec.{eqb, ltb}
+use lib.Dec.{eqb, leb, ltb}
 use lib.ListN.{get_or, set}
-use Rattle.memory.specs.Bits.{bit_set}
 use Rattle.memory.specs.declared.Page.{Page}
 use Rattle.memory.specs.declared.PageWord.{PageWord}
 use Rattle.memory.specs.declared.Src.{Src}
@@ -107,7 +106,7 @@ module _ (prg chr ram : ℕ) (m : Mappable prg chr ram) where
   shown_in_prg : (free : Bool) (v : ℕ) → all in_prg (prg_value_pages prg ram free v) ≡ true
   unfolding prg_value_pages
   shown_in_prg free v =
-      pick_keeps (λ (l : List PageWord). all in_prg l ≡ true) (bit_set v 7)
+      pick_keeps (λ (l : List PageWord). all in_prg l ≡ true) (leb 128 v)
       (all_map in_prg (window_word PrgRom prg (v % 128) false) (0 ∷ 1 ∷ 2 ∷ 3 ∷ 4 ∷ 5 ∷ 6 ∷ 7 ∷ []) (λ i. rom_shows prg ram (v % 128) i m.prg_least m.prg_whole m.prg_most))
       (all_map in_prg (window_word PrgRam ram (ram_bank v) free) (0 ∷ 1 ∷ 2 ∷ 3 ∷ 4 ∷ 5 ∷ 6 ∷ 7 ∷ []) (λ i. ram_shows prg ram (ram_bank v) i free m.ram_whole m.ram_most))
 

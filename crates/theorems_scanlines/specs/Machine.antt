@@ -1,4 +1,4 @@
--- Beside the detector (Run.antt): the full tile count over a history, which calls are taken, and the bit that the Rust stores.
+-- The detector over a history: what each call makes of it, by the definitions of crate `scanline`, and which calls are taken.
 -- Assumes nothing.
 use Rattle.std.specs.Prelude.{ℕ, ◌+◌, ◌≡◌, Bool, true, false, not, ◌&&◌, ◌||◌, [], ◌∷◌, eqb}
 use Rattle.memory.specs.Bits.{bit_set}
@@ -6,7 +6,7 @@ use Rattle.memory.specs.Tests.{pick}
 use Rattle.scanline.specs.declared.Detector.{Detector}
 use Rattle.scanline.specs.Fetches.{counted_at, name_at}
 use Rattle.scanline.specs.Tiles.{left_after}
-use Rattle.scanline.specs.Steps.{detector_at_load, matches_after, meets}
+use Rattle.scanline.specs.Steps.{detector_at_load, matches_after, meets, seen_at, clocked, dark, darkened, vector_read, status_read, targeted, enabled_by}
 use Rattle.scanline.specs.Ranges.{counter_refused}
 use Rattle.theorems_scanlines.specs.Calls.{Event}
 use Rattle.theorems_scanlines.specs.Calls.Event.{clock, fetch, cpu_read, cpu_write, ppu_register, other}

@@ -12,27 +12,14 @@ returns c = rw (← c.before.before.too_long.ensures, c.before.if1.true, c.refus
 
 returns-2 : tie.Need-returns-2
 unfolding replayed
-returns-2 c =
-    let told = c.before.before in
-    let passed = told.before.before in
-    let short = passed.before in
-    rw (← short.before.too_long.ensures, short.if1.false, ← passed.passed.ensures, told.gate.given.1, c.refuse2.ensures)
+returns-2 c = rw (← c.before.before.before.before.before.before.too_long.ensures, c.before.before.before.before.before.if1.false, ← c.before.before.before.before.passed.ensures, c.before.before.gate.given.1, c.refuse2.ensures)
 
 play-requires : tie.Need-play-requires
-play-requires c κs =
-    let told = c.before.before.before.before.before in
-    let passed = told.before.before in
-    let short = passed.before in
-    (ltb-false _ _ (sym short.before.too_long.ensures ∙ short.if1.false), sym passed.passed.ensures ∙ told.enum_told.given.1)
+play-requires c κs = (ltb-false _ _ (sym c.before.before.before.before.before.before.before.before.before.too_long.ensures ∙ c.before.before.before.before.before.before.before.before.if1.false), sym c.before.before.before.before.before.before.before.passed.ensures ∙ c.before.before.before.before.before.enum_told.given.1)
 
 returns-3 : tie.Need-returns-3
 unfolding replayed
-returns-3 c =
-    let played = c.before.before.before.before.before.before.before.before.before.before in
-    let told = played.before.before.before.before.before.before in
-    let passed = told.before.before in
-    let short = passed.before in
-    rw (← short.before.too_long.ensures, short.if1.false, ← passed.passed.ensures, told.enum_told.given.1) played.play.ensures
+returns-3 c = rw (← c.before.before.before.before.before.before.before.before.before.before.before.before.before.before.before.before.before.before.before.before.too_long.ensures, c.before.before.before.before.before.before.before.before.before.before.before.before.before.before.before.before.before.before.before.if1.false, ← c.before.before.before.before.before.before.before.before.before.before.before.before.before.before.before.before.before.before.passed.ensures, c.before.before.before.before.before.before.before.before.before.before.before.before.before.before.before.before.enum_told.given.1) c.before.before.before.before.before.before.before.before.before.before.play.ensures
 
 pub replay-spec : {M : Type 1} → statement M
 replay-spec =

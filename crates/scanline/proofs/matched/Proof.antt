@@ -16,29 +16,15 @@ returns-2 c = simp (le-leb c.before.before.before.before.args.addr.0 0x2FFF (ome
 
 returns-3 : tie.Need-returns-3
 unfolding matches_after again
-returns-3 c =
-    let second = c.before.before.before in
-    let first = second.before.before in
-    let given = first.before.before.args in
-    simp (le-leb given.addr.0 0x2FFF (omega (arith, first.if1.false)), not-false given.d.prev_some second.if2.false, ne_eqb _ _ c.if3.true)
+returns-3 c = simp (le-leb c.before.before.before.before.before.before.before.args.addr.0 0x2FFF (omega (arith, c.before.before.before.before.before.if1.false)), not-false c.before.before.before.before.before.before.before.args.d.prev_some c.before.before.before.if2.false, ne_eqb _ _ c.if3.true)
 
 returns-4 : tie.Need-returns-4
 unfolding matches_after again
-returns-4 c =
-    let third = c.before.before in
-    let second = third.before.before.before in
-    let first = second.before.before in
-    let given = first.before.before.args in
-    simp (le-leb given.addr.0 0x2FFF (omega (arith, first.if1.false)), not-false given.d.prev_some second.if2.false, eq-eqb _ _ third.if3.false) (omega arith)
+returns-4 c = simp (le-leb c.before.before.before.before.before.before.before.before.before.args.addr.0 0x2FFF (omega (arith, c.before.before.before.before.before.before.before.if1.false)), not-false c.before.before.before.before.before.before.before.before.before.args.d.prev_some c.before.before.before.before.before.if2.false, eq-eqb _ _ c.before.before.if3.false) (omega arith)
 
 returns-5 : tie.Need-returns-5
 unfolding matches_after again
-returns-5 c =
-    let third = c.before.before.before in
-    let second = third.before.before.before in
-    let first = second.before.before in
-    let given = first.before.before.args in
-    simp (le-leb given.addr.0 0x2FFF (omega (arith, first.if1.false)), not-false given.d.prev_some second.if2.false, eq-eqb _ _ third.if3.false) (omega arith)
+returns-5 c = simp (le-leb c.before.before.before.before.before.before.before.before.before.before.args.addr.0 0x2FFF (omega (arith, c.before.before.before.before.before.before.before.before.if1.false)), not-false c.before.before.before.before.before.before.before.before.before.before.args.d.prev_some c.before.before.before.before.before.before.if2.false, eq-eqb _ _ c.before.before.before.if3.false) (omega arith)
 
 pub matched-spec : {M : Type 1} → statement M
 matched-spec = tie.close (tie.spec returns returns-2 returns-3 returns-4 (λ c. search rules) returns-5)

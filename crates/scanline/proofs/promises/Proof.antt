@@ -1,10 +1,7 @@
--- `promises` holds: the ranges are kept, by `ranges_kept`; the two clocks are one, by `same_clock`; the count turns over, by `turns` and `four_looks`; that
--- one field is put, and the worked cases, by computation.
-use mathlib.Core.Path.{refl}
+-- `promises` holds: the ranges are kept, by `ranges_kept`; the two clocks are one, by `same_clock`; the count turns over, by `turns` and `four_looks`; the
+-- worked cases, by computation.
 use Rattle.memory.specs.Tests.{all}
 use Rattle.scanline.specs.Clock.{tick}
-use Rattle.memory.specs.Puts.{Every, EveryBut}
-use Rattle.scanline.specs.Puts.{OneField}
 use Rattle.scanline.specs.Ranges.{detector_ok, line_refused, counter_refused}
 use Rattle.scanline.specs.Steps.{again, matches_after, is_line, meets, seen_at}
 use Rattle.scanline.specs.Tiles.{sprite_fetch, column_of, is_prefetched, is_first, fold, tiles_ok, next_tile}
@@ -14,19 +11,9 @@ use Rattle.scanline.proofs.RangeLaws.{ranges_kept}
 use Rattle.scanline.proofs.promises.Statement.{statement}
 use Rattle.scanline.proofs.promises.Tie as tie
 
-one_field : OneField
-unfolding Every EveryBut
-one_field =
-    record {
-      clock_record = record { is_new = λ d r. refl; else_kept = λ d r. (refl, (refl, (refl, (refl, (refl, tt))))) };
-      pending = record { is_new = λ d v. refl; else_kept = λ d v. (refl, (refl, (refl, (refl, (refl, tt))))) };
-      enabled = record { is_new = λ d v. refl; else_kept = λ d v. (refl, (refl, (refl, (refl, (refl, tt))))) };
-      target = record { is_new = λ d v. refl; else_kept = λ d v. (refl, (refl, (refl, (refl, (refl, tt))))) };
-    }
-
 returns : tie.Need-returns
 unfolding detector_ok line_refused counter_refused sprite_fetch column_of is_prefetched is_first fold tiles_ok next_tile tick again matches_after is_line meets seen_at all
-returns c = (ranges_kept, same_clock, one_field, turns, four_looks, tt)
+returns c = (ranges_kept, same_clock, turns, four_looks, tt)
 
 pub promises-spec : {M : Type 1} → statement M
 promises-spec = tie.close (tie.spec returns)

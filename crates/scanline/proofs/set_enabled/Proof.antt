@@ -1,7 +1,7 @@
 -- Bit 7 of a byte is set where the byte is above 127: `bit_set_lem` and `bit_clear`.
 use native.Mathlib.Omega.{arith}
 use borrow.Author.Rules.{rules}
-use Rattle.memory.proofs.BitLaws.{bit_set_lem, bit_clear}
+use Rattle.scanline.proofs.StepLaws.{bit_set_lem, bit_clear}
 use Rattle.scanline.proofs.set_enabled.Statement.{statement}
 use Rattle.scanline.proofs.set_enabled.Tie as tie
 

@@ -1,28 +1,12 @@
 -- Each promise is a law of `ControlLaws`, `RegionLaws` or `PlaceLaws`.
-use Rattle.split.specs.Promise.{Split}
 use Rattle.split.proofs.ControlLaws.{load_in_ranges, control_keeps_ranges, scroll_keeps_ranges, bank_keeps_ranges}
 use Rattle.split.proofs.PlaceLaws.{attribute_inside, shift_small, shift_even, pattern_inside}
 use Rattle.split.proofs.RegionLaws.{scroll_small, name_keeps_ranges, column_32_inside, in_region_lem}
 use Rattle.split.proofs.promises.Statement.{statement}
 use Rattle.split.proofs.promises.Tie as tie
 
-split_kept : Split
-split_kept =
-    record {
-      scroll_small = scroll_small;
-      load_in_ranges = load_in_ranges;
-      control_keeps_ranges = control_keeps_ranges;
-      scroll_keeps_ranges = scroll_keeps_ranges;
-      bank_keeps_ranges = bank_keeps_ranges;
-      name_keeps_ranges = name_keeps_ranges;
-      attribute_inside = attribute_inside;
-      shift_small = shift_small;
-      shift_even = shift_even;
-      pattern_inside = pattern_inside;
-    }
-
 returns : tie.Need-returns
-returns c = (split_kept, column_32_inside, in_region_lem)
+returns c = (record { scroll_small = scroll_small; load_in_ranges = load_in_ranges; control_keeps_ranges = control_keeps_ranges; scroll_keeps_ranges = scroll_keeps_ranges; bank_keeps_ranges = bank_keeps_ranges; name_keeps_ranges = name_keeps_ranges; attribute_inside = attribute_inside; shift_small = shift_small; shift_even = shift_even; pattern_inside = pattern_inside }, column_32_inside, in_region_lem)
 
 pub promises-spec : {M : Type 1} → statement M
 promises-spec = tie.close (tie.spec returns)

@@ -1,25 +1,23 @@
 -- By computation, field by field.
-use mathlib.Core.Path.{refl}
-use Rattle.memory.specs.Puts.{Every, EveryBut}
-use Rattle.state.specs.Puts.{OneField}
+use mathlib.Core.Path.{◌≡◌, refl}
+use Rattle.state.specs.Puts.{Puts, OneField}
 use Rattle.state.proofs.promises.Statement.{statement}
 use Rattle.state.proofs.promises.Tie as tie
 
 one_field : OneField
-unfolding Every EveryBut
 one_field =
     record {
-      regs = record { is_new = λ s v. refl; else_kept = λ s v. (refl, (refl, (refl, (refl, (refl, (refl, (refl, (refl, (refl, tt))))))))) };
-      vsplit = record { is_new = λ s v. refl; else_kept = λ s v. (refl, (refl, (refl, (refl, (refl, (refl, (refl, (refl, (refl, tt))))))))) };
-      irq = record { is_new = λ s v. refl; else_kept = λ s v. (refl, (refl, (refl, (refl, (refl, (refl, (refl, (refl, (refl, tt))))))))) };
-      ppu = record { is_new = λ s v. refl; else_kept = λ s v. (refl, (refl, (refl, (refl, (refl, (refl, (refl, (refl, (refl, tt))))))))) };
-      chr_pages = record { is_new = λ s v. refl; else_kept = λ s v. (refl, (refl, (refl, (refl, (refl, (refl, (refl, (refl, (refl, tt))))))))) };
-      tile_number = record { is_new = λ s v. refl; else_kept = λ s v. (refl, (refl, (refl, (refl, (refl, tt))))) };
-      tile_cache = record { is_new = λ s v. refl; else_kept = λ s v. (refl, (refl, (refl, (refl, (refl, tt))))) };
-      sprite8x16 = record { is_new = λ s v. refl; else_kept = λ s v. (refl, (refl, (refl, (refl, (refl, tt))))) };
-      rendering = record { is_new = λ s v. refl; else_kept = λ s v. (refl, (refl, (refl, (refl, (refl, tt))))) };
-      bg_set = record { is_new = λ s v. refl; else_kept = λ s v. (refl, (refl, (refl, (refl, (refl, tt))))) };
-      bg_written = record { is_new = λ s v. refl; else_kept = λ s v. (refl, (refl, (refl, (refl, (refl, tt))))) };
+      regs = record { is_new = λ s v. refl; else_kept = λ s v. refl };
+      vsplit = record { is_new = λ s v. refl; else_kept = λ s v. refl };
+      irq = record { is_new = λ s v. refl; else_kept = λ s v. refl };
+      ppu = record { is_new = λ s v. refl; else_kept = λ s v. refl };
+      chr_pages = record { is_new = λ s v. refl; else_kept = λ s v. refl };
+      tile_number = record { is_new = λ s v. refl; else_kept = λ s v. refl };
+      tile_cache = record { is_new = λ s v. refl; else_kept = λ s v. refl };
+      sprite8x16 = record { is_new = λ s v. refl; else_kept = λ s v. refl };
+      rendering = record { is_new = λ s v. refl; else_kept = λ s v. refl };
+      bg_set = record { is_new = λ s v. refl; else_kept = λ s v. refl };
+      bg_written = record { is_new = λ s v. refl; else_kept = λ s v. refl };
     }
 
 returns : tie.Need-returns

@@ -1,7 +1,6 @@
 -- By the address: the tests of the addresses before it stand in each arm.
 use Rattle.cpu.specs.PpuRegisters.{status_after}
 use borrow.Author.Tests.{eq-eqb, ne_eqb}
-use Rattle.memory.proofs.BitLaws.{both_clear}
 use Rattle.cpu.proofs.ppu_registers.status_after.Statement.{statement}
 use Rattle.cpu.proofs.ppu_registers.status_after.Tie as tie
 
@@ -11,7 +10,7 @@ returns c = rw (eq-eqb _ _ c.if1.true)
 
 returns-2 : tie.Need-returns-2
 unfolding status_after
-returns-2 c = rw (ne_eqb _ _ c.before.before.if1.false, eq-eqb _ _ c.if2.true, both_clear c.before.before.before.before.args.val)
+returns-2 c = rw (ne_eqb _ _ c.before.before.if1.false, eq-eqb _ _ c.if2.true)
 
 returns-3 : tie.Need-returns-3
 unfolding status_after

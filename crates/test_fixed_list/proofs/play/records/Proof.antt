@@ -24,18 +24,7 @@ loop-less : tie.Need-loop-smaller invariant-loop decreases-loop
 loop-less c = omega (arith, (turn c.before.before.before).loop-test.taken)
 
 loop-again : tie.Need-loop-preserved invariant-loop decreases-loop
-loop-again c =
-    let begun = turn c.before.before.before in
-    let exram = c.before.before.before.before in
-    let ciram = exram.before.before in
-    let ram = ciram.before.before in
-    let chr = ram.before.before in (
-      omega (arith, begun.loop-test.taken),
-      omega (arith, chr.chr.given, begun.before.loop.inv.1),
-      omega (arith, ram.ram.given, begun.before.loop.inv.2),
-      omega (arith, ciram.ciram.given, begun.before.loop.inv.3),
-      omega (arith, exram.exram.given, begun.before.loop.inv.4),
-    )
+loop-again c = (omega (arith, (turn c.before.before.before).loop-test.taken), omega (arith, c.before.before.before.before.before.before.before.before.before.before.chr.given, (turn c.before.before.before).before.loop.inv.1), omega (arith, c.before.before.before.before.before.before.before.before.ram.given, (turn c.before.before.before).before.loop.inv.2), omega (arith, c.before.before.before.before.before.before.ciram.given, (turn c.before.before.before).before.loop.inv.3), omega (arith, c.before.before.before.before.exram.given, (turn c.before.before.before).before.loop.inv.4))
 
 same-length-5 : tie.Need-same-length-5 invariant-loop decreases-loop
 same-length-5 c = omega (arith, c.before.before.before.before.before.before.before.before.before.chr.given, (turn c.before.before).before.loop.inv.1)

@@ -7,9 +7,7 @@ use Rattle.transcript.proofs.cartridge.print_over.Statement.{statement}
 use Rattle.transcript.proofs.cartridge.print_over.Tie as tie
 
 returns : tie.Need-returns
-returns c =
-    let played = c.before.before.before.before.before.before.before.before.before.before.before.before.before.before.before in
-    c.before.before.print.ensures ∙ ap (text_written _) (over _ _ _ _ _ played.before.before.before.before.before.before.before.load.ensures played.replay.ensures)
+returns c = c.before.before.print.ensures ∙ ap (text_written _) (over _ _ _ _ _ c.before.before.before.before.before.before.before.before.before.before.before.before.before.before.before.before.before.before.before.before.before.before.load.ensures c.before.before.before.before.before.before.before.before.before.before.before.before.before.before.before.replay.ensures)
 
 pub print-over-spec : {M : Type 1} → statement M
 print-over-spec =

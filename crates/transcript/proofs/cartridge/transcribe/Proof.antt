@@ -7,10 +7,7 @@ use Rattle.transcript.proofs.cartridge.transcribe.Statement.{statement}
 use Rattle.transcript.proofs.cartridge.transcribe.Tie as tie
 
 returns : tie.Need-returns
-returns c =
-    let printed = c.before.before.before.before.before.before.before in
-    let chr = printed.before.before.before.before.before.before.before.before.before in
-    printed.print-over.ensures ∙ ap (text_written _) (counted _ _ _ chr.before.before.before.count-pages.ensures chr.count-pages2.ensures)
+returns c = c.before.before.before.before.before.before.before.print-over.ensures ∙ ap (text_written _) (counted _ _ _ c.before.before.before.before.before.before.before.before.before.before.before.before.before.before.before.before.before.before.before.count-pages.ensures c.before.before.before.before.before.before.before.before.before.before.before.before.before.before.before.before.count-pages2.ensures)
 
 pub transcribe-spec : {M : Type 1} → statement M
 transcribe-spec =

@@ -37,19 +37,10 @@ unfolding line_of goes_on next_of
 returns-2 c = rw c.before.before.before.before.before.found.given.1 (c.before.before.unreadable_line.ensures, (refl, refl))
 
 returns-3 : tie.Need-returns-3
-returns-3 c =
-    let stopped = c.before.before.before.before.before in
-    let kind = stopped.before.before in
-    refused _ _ _ _ _ _ _ kind.before.before.found2.given.1 _ kind.kind_of.ensures _ _ _ (sym stopped.before.stopped_at_lem.ensures ∙ stopped.if1.true)
-    c.before.before.before.before.why-of.ensures c.before.before.refused_line.ensures
+returns-3 c = refused _ _ _ _ _ _ _ c.before.before.before.before.before.before.before.before.before.found2.given.1 _ c.before.before.before.before.before.before.before.kind_of.ensures _ _ _ (sym c.before.before.before.before.before.before.stopped_at_lem.ensures ∙ c.before.before.before.before.before.if1.true) c.before.before.before.before.why-of.ensures c.before.before.refused_line.ensures
 
 returns-4 : tie.Need-returns-4
-returns-4 c =
-    let bytes = c.before.before.before.before in
-    let stopped = bytes.before.before in
-    let kind = stopped.before.before in
-    accepted _ _ _ _ _ _ _ kind.before.before.found2.given.1 _ kind.kind_of.ensures _ _ _ _ (sym stopped.before.stopped_at_lem.ensures ∙ stopped.if1.false)
-    bytes.before.byte.ensures bytes.byte2.ensures c.before.before.logged_line.ensures
+returns-4 c = accepted _ _ _ _ _ _ _ c.before.before.before.before.before.before.before.before.before.before.found2.given.1 _ c.before.before.before.before.before.before.before.before.kind_of.ensures _ _ _ _ (sym c.before.before.before.before.before.before.before.stopped_at_lem.ensures ∙ c.before.before.before.before.before.before.if1.false) c.before.before.before.before.before.byte.ensures c.before.before.before.before.byte2.ensures c.before.before.logged_line.ensures
 
 pub print-record-spec : {M : Type 1} → statement M
 print-record-spec =
