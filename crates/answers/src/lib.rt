@@ -1,10 +1,12 @@
 // What a call answers, and the refusals: one for each row of 01's table "Refusal numbers", with its number. 8 left the table, and is given to none.
+#![tactic(auto)]
+
 ghost use Rattle.std.specs.Prelude.{◌≡◌};
 ghost use Rattle.answers.specs.Letters.{letter_of, has_value, value_of};
 ghost use Rattle.answers.specs.Numbers.{number_of};
 ghost use Rattle.answers.specs.Promise.{Numbered};
 
-#[derive(Drop)]
+#[derive(Clone, Copy)]
 pub enum Refusal {
     Prg,
     Chr,
@@ -19,7 +21,7 @@ pub enum Refusal {
 }
 
 // 01, "Trace": none, a register's value, a value served in the page's place, a page's byte, or a blank page; or a refusal.
-#[derive(Drop)]
+#[derive(Clone, Copy)]
 pub enum Answer {
     Nothing,
     Register(u8),

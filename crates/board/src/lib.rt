@@ -1,5 +1,7 @@
 // The board as the customer calls it. Every function takes anything: it asks the gate (refusals 4 and 5), then its own refusals, then does the
 // call. 01, "The board we take". A call over memory takes the five lent buffers; a call that touches none takes the state alone.
+#![tactic(auto)]
+
 ghost use Rattle.std.specs.Prelude.{◌≡◌};
 ghost use Rattle.board.specs.Outcomes.{refused};
 
@@ -14,21 +16,21 @@ pub mod ppu_registers;
 pub mod state_calls;
 
 // What a call gives back: its answer and the state after it.
-#[derive(Drop)]
+#[derive(Clone, Copy)]
 pub struct Outcome {
     pub answer: Answer,
     pub state: State,
 }
 
 // What `mirroring` tells.
-#[derive(Drop)]
+#[derive(Clone, Copy)]
 pub enum MirroringAnswer {
     Is(Mirroring),
     Refused(Refusal),
 }
 
 // What `interrupt_up` tells.
-#[derive(Drop)]
+#[derive(Clone, Copy)]
 pub enum InterruptAnswer {
     Up,
     Down,

@@ -11,7 +11,7 @@ use registers::{Mirroring, Regs};
 use state::{Lengths, PpuStatus, Screen, State};
 
 // What the cartridge's header says: whether CHR is RAM, and the mirroring.
-#[derive(Drop)]
+#[derive(Clone, Copy)]
 pub struct Settings {
     pub chr_writable: bool,
     pub mirroring: Mirroring,

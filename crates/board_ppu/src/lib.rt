@@ -1,5 +1,7 @@
 // The board as the customer calls it, the PPU's side: fetch, peek, sprite peek and memory write. As in the crate `board`, every function takes
 // anything: the gate (refusals 4 and 5), then its own refusals, then the call.
+#![tactic(auto)]
+
 ghost use Rattle.board_ppu.specs.Promise.{SpriteSetMapped};
 
 pub mod fetches;

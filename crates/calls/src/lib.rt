@@ -1,5 +1,7 @@
 // The call of a record, made on the board by value. One record at a time is what a host plays that keeps the state itself; who plays a
 // whole trace calls the player, which asks the gate once.
+#![tactic(auto)]
+
 ghost use Rattle.std.specs.Prelude.{◌≡◌};
 ghost use Rattle.memory.specs.Bytes.{mem_of};
 ghost use Rattle.state.specs.Gate.{gate_mem};

@@ -1,4 +1,6 @@
 // The one number that a host gets for an answer: what the crates of the single calls and of the looks share.
+#![tactic(auto)]
+
 ghost use Rattle.std.specs.Prelude.{◌≡◌};
 ghost use Rattle.host_answers.specs.Answers.{answer_plain, taken, answer_with_interrupt, answer_mirroring, answer_interrupt};
 

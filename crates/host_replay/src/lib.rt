@@ -1,5 +1,7 @@
 // Replay for a host in C or Rust: a whole trace in one call, over words and bytes that the host lends and keeps. A library of its own, so that the
 // board's large functions have one caller in it and are compiled into the loop. docs/HOST.md has the boundary for a reader.
+#![tactic(auto)]
+
 ghost use Rattle.std.specs.Prelude.{◌≡◌, ◌≤◌};
 ghost use Rattle.memory.specs.Bytes.{mem_of};
 ghost use Rattle.host_replay.specs.Promise.{ReplayPromised};

@@ -1,4 +1,6 @@
 // The log of a replay: what is written of one record.
+#![tactic(auto)]
+
 ghost use Rattle.std.specs.Prelude.{◌≤◌, ◌≡◌};
 ghost use Rattle.scanline.specs.Steps.{interrupt_up};
 ghost use Rattle.logs.specs.Logs.{log_letter, logged};

@@ -1,4 +1,6 @@
 // Replay: a whole trace played over a board. 01, "Trace" and module 11. `plays` has the loop; specs/Replay.antt says what it comes to.
+#![tactic(auto)]
+
 ghost use Rattle.std.specs.Prelude.{◌≡◌};
 ghost use Rattle.memory.specs.Bytes.{mem_of};
 ghost use Rattle.player.specs.declared.Ending.TheVariants.{Stopped};
@@ -12,14 +14,14 @@ use state::gate::Gate;
 pub mod plays;
 
 // "answers with that record's place, or with the record count"
-#[derive(Drop)]
+#[derive(Clone, Copy)]
 pub enum Ending {
     Done(usize),
     Stopped(usize, Refusal),
 }
 
 // What a replay gives back.
-#[derive(Drop)]
+#[derive(Clone, Copy)]
 pub struct Replayed {
     pub ending: Ending,
     pub state: State,

@@ -1,4 +1,6 @@
 // Text and numbers on standard output, for the programs that are held to a stored output.
+#![tactic(auto)]
+
 use libc::STDOUT_FILENO;
 
 pub fn print_text(bytes: &[u8]) {

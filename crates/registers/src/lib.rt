@@ -1,5 +1,7 @@
 // The small registers: modes, protection, ExRAM's mode, nametable selectors, fill, the upper CHR bits, the multiplier, and mirroring.
 // 01, module 3, and their part of module 9; in the Rust, `Regs` and its arms of `write_register`.
+#![tactic(auto)]
+
 ghost use Rattle.std.specs.Prelude.{◌≡◌};
 ghost use Rattle.memory.specs.Tests.{pick};
 ghost use Rattle.registers.specs.Registers.{regs_at_load, reset_regs, written, attribute_use, nametable_use, unlocked, regs_ok};
@@ -8,7 +10,7 @@ ghost use Rattle.registers.specs.Mirrorings.{mirroring_of, mirroring_after};
 use memory::CpuAddr;
 
 // `exram_chosen` says that $5104 was written: nametable use is off before.
-#[derive(Drop)]
+#[derive(Clone, Copy)]
 pub struct Regs {
     pub prg_mode: u8,
     pub chr_mode: u8,
@@ -24,7 +26,7 @@ pub struct Regs {
     pub multiplier: u8,
 }
 
-#[derive(Drop)]
+#[derive(Clone, Copy)]
 pub enum Mirroring {
     Horizontal,
     Vertical,

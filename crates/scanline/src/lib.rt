@@ -2,6 +2,8 @@
 // 01, module 7 and "Fetches, runs, breaks"; in the Rust, the middle of `chr_read`, `clock`, `prg_read` and `ppu_write`.
 // A group of small values, taken and given back: every PPU fetch and every clock goes through here.
 // What the names mean stands in specs/: Steps.antt for the calls, Ranges.antt for what is refused.
+#![tactic(auto)]
+
 ghost use Rattle.std.specs.Prelude.{◌≡◌, ◌<◌, ◌≤◌};
 ghost use Rattle.scanline.specs.Steps.{detector_at_load, matches_after, line_number, seen_at, clocked, darkened, vector_read, status_read, targeted, enabled_by, status_of, interrupt_up};
 ghost use Rattle.scanline.specs.Ranges.{detector_ok, line_refused, counter_refused};
@@ -15,7 +17,7 @@ pub mod record;
 pub mod tiles;
 
 // The fields after the Rust's: `prev_some` with `prev_addr` is its `Option<u16>`; `pending` is the flag that $5204 reads.
-#[derive(Drop)]
+#[derive(Clone, Copy)]
 pub struct Detector {
     pub prev_some: bool,
     pub prev_addr: PpuAddr,

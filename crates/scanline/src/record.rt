@@ -7,7 +7,7 @@ use crate::Detector;
 use answers::{Answer, Refusal};
 use memory::PpuAddr;
 
-#[derive(Drop)]
+#[derive(Clone, Copy)]
 pub struct ClockRecord {
     pub reading: bool,
     pub idle_count: u8,
@@ -17,7 +17,7 @@ pub struct ClockRecord {
 }
 
 // What one clock over a record answers, and the record after it.
-#[derive(Drop)]
+#[derive(Clone, Copy)]
 pub struct ClockOutcome {
     pub answer: Answer,
     pub record: ClockRecord,

@@ -1,6 +1,8 @@
 // The vertical split: its registers, the region that name fetches move in and out of, and the places in ExRAM and CHR that fetches in the
 // region get. 01, module 8; in the Rust, `VSplit` and the functions `split_*`. The tile count is not known here: its column, whether it is
 // 40 or more, and whether it is under 42, come in as parameters. What the names mean stands in specs/, a file for each module below.
+#![tactic(auto)]
+
 ghost use Rattle.split.specs.Examples.{Examples};
 ghost use Rattle.split.specs.Promise.{Split, Column32, InRegion};
 
@@ -9,7 +11,7 @@ pub mod places;
 pub mod region;
 
 // After the Rust's `VSplit`. `right` is its `Side::Right`.
-#[derive(Drop)]
+#[derive(Clone, Copy)]
 pub struct VSplit {
     pub mode: u8,
     pub enabled: bool,
@@ -25,7 +27,7 @@ pub struct VSplit {
 }
 
 // Where in ExRAM the attribute byte of a split tile stands, and how far its two bits are shifted.
-#[derive(Drop)]
+#[derive(Clone, Copy)]
 pub struct AttributePlace {
     pub addr: u16,
     pub shift: u8,

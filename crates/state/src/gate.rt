@@ -5,7 +5,7 @@ ghost use Rattle.state.specs.Gate.{same_lengths, gate_of};
 use crate::{Lengths, State, ranges};
 use answers::Refusal;
 
-#[derive(Drop)]
+#[derive(Clone, Copy)]
 pub enum Gate {
     Open,
     Shut(Refusal),

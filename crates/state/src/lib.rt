@@ -1,6 +1,8 @@
 // The board's state, by value: what load recorded, and the groups of registers, each with the crate that works on it. In the Rust, `Exrom`
 // and the page tables of `Memory`. Where 01 gives a field a range it is a number and `ranges` tests it; where it gives none the type
 // admits no bad value. Nothing is stored that follows from the rest: `irq_pending` and `mult_result` are not.
+#![tactic(auto)]
+
 ghost use Rattle.state.specs.Puts.{OneField};
 
 pub mod gate;
@@ -13,7 +15,7 @@ use scanline::Detector;
 use split::VSplit;
 
 // The lengths that load took, and whether it took CHR as RAM.
-#[derive(Drop)]
+#[derive(Clone, Copy)]
 pub struct Lengths {
     pub loaded: bool,
     pub prg: u32,
@@ -26,7 +28,7 @@ pub struct Lengths {
 
 // After the Rust's `PpuStatus`, with its `tile_cache`, `chr_set` and `last_chr_write`: `bg_set` says that the CHR table holds the
 // background's set, `bg_written` that the last CHR write was one to it.
-#[derive(Drop)]
+#[derive(Clone, Copy)]
 pub struct PpuStatus {
     pub tile_number: u32,
     pub tile_cache: u16,
@@ -36,13 +38,13 @@ pub struct PpuStatus {
     pub bg_written: bool,
 }
 
-#[derive(Drop)]
+#[derive(Clone, Copy)]
 pub struct Screen {
     pub mirroring: Mirroring,
 }
 
 // `irq` is the scanline detector, `prg_banks` $5113-$5117, `chr_banks` $5120-$512B with the last four twice.
-#[derive(Drop)]
+#[derive(Clone, Copy)]
 pub struct State {
     pub lengths: Lengths,
     pub regs: Regs,

@@ -21,7 +21,7 @@ use split::VSplit;
 use state::{Lengths, PpuStatus};
 
 // The groups after a fetch at $2000-$3EFF.
-#[derive(Drop)]
+#[derive(Clone, Copy)]
 pub struct Counted {
     pub irq: Detector,
     pub ppu: PpuStatus,

@@ -11,7 +11,7 @@ use split::VSplit;
 use state::{Lengths, PpuStatus};
 
 // The groups after a write that maps PRG pages.
-#[derive(Drop)]
+#[derive(Clone, Copy)]
 pub struct PrgWrite {
     pub regs: Regs,
     pub banks: [u8; 5],
@@ -40,7 +40,7 @@ pub fn write_prg(
 }
 
 // The groups after any other write. Of the PRG table it can change ExRAM's page.
-#[derive(Drop)]
+#[derive(Clone, Copy)]
 pub struct OtherWrite {
     pub regs: Regs,
     pub vsplit: VSplit,

@@ -1,5 +1,7 @@
 // What bad input gets: wrong lengths, each range of the state broken one at a time, each audio register, fetches at the line
 // counter's limit and where the tile count turns over. One line each: what was tried, and the refusal's number or `taken`. The file `stdout` is written from document 01's table of refusals.
+#![tactic(auto)]
+
 ghost use Rattle.std.specs.Prelude.{◌≤◌, length};
 
 use answers::Answer;

@@ -11,7 +11,7 @@ pub const PEEKS: u8 = 2;
 
 pub const COUNTERS: u8 = 3;
 
-#[derive(Drop)]
+#[derive(Clone, Copy)]
 pub struct Head {
     pub kind: u8,
     pub prg: usize,

@@ -1,6 +1,8 @@
 // Plays a case file from standard input and prints the lines of `replay` for each case, for the comparison with the Rust's. The file
 // `stdin` is oracle/fixed/cpu.cases and then ppu.cases, `stdout` what the Rust gave (cpu.answers and ppu.answers). oracle/README.md has the format of a case.
 // What a case file should not hold prints a line that no replay prints: `cut`, `large`, `load N`.
+#![tactic(auto)]
+
 ghost use Rattle.std.specs.Prelude.{◌≤◌, length};
 
 use head::Head;

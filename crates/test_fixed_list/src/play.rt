@@ -8,7 +8,7 @@ use state::State;
 use trace::Found;
 
 // What is left after a record: whether the replay goes on, from which place, over which state.
-#[derive(Drop)]
+#[derive(Clone, Copy)]
 struct Turn {
     going: bool,
     at: usize,

@@ -13,7 +13,7 @@ fn found_at(trace: &[u8], at: usize) -> Found
     trace::reader::next_record(trace::reader::advanced(trace::reader::new(trace), at))
 }
 
-#[derive(Drop)]
+#[derive(Clone, Copy)]
 struct Turn {
     going: bool,
     at: usize,

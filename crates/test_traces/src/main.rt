@@ -1,6 +1,8 @@
 // Plays the traces of a case file from standard input, each as the program `replay` does, and prints their lines one after the other. The file
 // `stdin` is oracle/fixed/traces.cases, `stdout` what the Rust gave: the worked example, no record, every cut of a trace, each refusal in each
 // kind of record, 8,192 bytes and 8,193. oracle/README.md has the format of a case; all of these have 01's cartridge.
+#![tactic(auto)]
+
 ghost use Rattle.std.specs.Prelude.{◌≤◌, length};
 
 // How many bytes stand before a case's trace; the last two are its length, low one first.

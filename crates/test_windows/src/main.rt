@@ -1,5 +1,7 @@
 // Prints the pages that windows show, for the comparison with the Rust's: `window length bank: p0 p1 ..`, each page its number in the
 // buffer, or `blank`. The file `stdout` is what the Rust's own `map_prg` and `map_chr` gave (oracle/fixed/windows.answers).
+#![tactic(auto)]
+
 use memory::{PageWord, Src};
 use print::{print_number, print_text};
 

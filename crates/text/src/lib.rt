@@ -1,6 +1,8 @@
 // The lines of the program `replay`, written into a lent buffer. 01, "Trace": "One line per record". What stands in the buffer afterwards is in
 // specs/: Sheet.antt for bytes put one after another, Digits.antt for decimals, Lines.antt for the lines, Promise.antt for what follows
 // from that, Examples.antt for worked cases.
+#![tactic(auto)]
+
 ghost use Rattle.text.specs.Promise.{Writing};
 ghost use Rattle.text.specs.Examples.{Examples};
 

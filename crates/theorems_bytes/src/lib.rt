@@ -1,5 +1,7 @@
 // Bytes end to end: what the CPU reads and the PPU fetches after a register is written, in registers, addresses and bytes. No code runs here; each
 // function holds a theorem to the crate.
+#![tactic(auto)]
+
 ghost use Rattle.theorems_bytes.specs.Chr.{ChrBytes};
 ghost use Rattle.theorems_bytes.specs.ExRam.{ExRamBytes, ResetMapsNothing};
 ghost use Rattle.theorems_bytes.specs.Names.{NameBytes, ServedBytes};

@@ -1,4 +1,6 @@
 // Worked cases over histories of the board, each by computation: no code runs from here, each function's contract holds what is promised.
+#![tactic(auto)]
+
 ghost use Rattle.theorems_cases.specs.Edges.{Edges, ShutOut, CasesAreHistories};
 ghost use Rattle.theorems_cases.specs.WorkedReplay.{WorkedReplay};
 

@@ -1,6 +1,8 @@
 // The promises as theorems over histories: accepted calls one after the other from an accepted load, each over the state and the buffers as the
 // call before it left them. No code runs from here: each function's contract holds what is promised, so that a proof that goes missing fails
 // the check. specs/Boards.antt and specs/Histories.antt say what a call and a history are.
+#![tactic(auto)]
+
 ghost use Rattle.theorems_histories.specs.Accepted.{Along};
 ghost use Rattle.theorems_histories.specs.Code.{CodeIsTheBoard, EveryCallTakesAll};
 ghost use Rattle.theorems_histories.specs.Interrupts.{BoardDemand3, Asked};

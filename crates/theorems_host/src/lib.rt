@@ -1,5 +1,7 @@
 // What a server runs is the board of demands 2 and 3: the calls of the host's library over lent words are a history. No code runs from here: each
 // function's contract holds what is promised, and speaks of the contracts of the library's own functions.
+#![tactic(auto)]
+
 ghost use Rattle.theorems_host.specs.Exports.{ExportsTakeAll};
 ghost use Rattle.theorems_host.specs.Interrupts.{InterruptIsHeard};
 ghost use Rattle.theorems_host.specs.Printed.{TranscriptIsHistory};

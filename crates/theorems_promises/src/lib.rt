@@ -1,4 +1,6 @@
 // No code that runs: each function's contract holds what is promised, so that a proof that goes missing fails the check.
+#![tactic(auto)]
+
 ghost use Rattle.theorems_promises.specs.Address.{AddressStays, SameFetch};
 ghost use Rattle.theorems_promises.specs.Kept.{GateStaysOpen};
 ghost use Rattle.theorems_promises.specs.Loading.{LoadRefusals};

@@ -1,6 +1,8 @@
 // Traces: the calls of a session as bytes, read record by record. 01, "Trace". What the bytes mean stands in specs/: Numbers.antt for the
 // numbers, Records.antt for the kinds and the records, Refusals.antt for 9 and 10, Promise.antt for what follows from that, Examples.antt for worked cases, Cartridge.antt for
 // the cartridge that the program `replay` plays a trace over.
+#![tactic(auto)]
+
 ghost use Rattle.std.specs.Prelude.{◌≡◌};
 ghost use Rattle.trace.specs.Records.{kind_of, too_long};
 ghost use Rattle.trace.specs.Promise.{Reading};
@@ -15,7 +17,7 @@ pub mod reader;
 pub mod records;
 
 // A call that a trace can tell, in the order of the kinds. The PPU's registers have CPU addresses.
-#[derive(Drop)]
+#[derive(Clone, Copy)]
 pub enum Call {
     Clock,
     CpuRead(CpuAddr),
@@ -27,7 +29,7 @@ pub enum Call {
 }
 
 // What stands where a number is to be read: a number and the place after it, or why there is none.
-#[derive(Drop)]
+#[derive(Clone, Copy)]
 pub enum Numeral {
     Sound(u32, usize),
     Cut,
@@ -36,7 +38,7 @@ pub enum Numeral {
 }
 
 // What stands at a place of a trace: nothing more, a record and the place after it, or what cannot be read.
-#[derive(Drop)]
+#[derive(Clone, Copy)]
 pub enum Found {
     End,
     Record(Call, usize),

@@ -6,7 +6,7 @@ ghost use Rattle.trace.specs.Records.{record_at};
 
 use crate::{Found, records};
 
-#[derive(Drop)]
+#[derive(Clone, Copy)]
 pub struct Reader<'a> {
     pub trace: &'a [u8],
     pub at: usize,

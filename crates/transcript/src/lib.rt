@@ -1,4 +1,6 @@
 // What the program `replay` prints. 01, "Trace". `printed` writes the lines of a replay, `cartridge` plays a trace over 01's cartridge.
+#![tactic(auto)]
+
 ghost use Rattle.transcript.specs.Lines.{PrintedIsLines, TranscriptIsLines};
 
 pub mod cartridge;

@@ -27,7 +27,7 @@ fn why_of(ending: Ending) -> Refusal
 }
 
 // What a record's line leaves: where the text goes on, whether a record follows, and its place.
-#[derive(Drop)]
+#[derive(Clone, Copy)]
 struct Line {
     to: usize,
     more: bool,

@@ -1,5 +1,7 @@
 // Page views: the 1,024 bytes that a page shows, as a part of the lent buffer itself. 01, "Views". Every other page, and whatever the gate
 // refuses, gives the empty part.
+#![tactic(auto)]
+
 ghost use Rattle.std.specs.Prelude.{◌≡◌};
 ghost use Rattle.memory.specs.Bytes.{mem_of};
 ghost use Rattle.views.specs.Views.{part_from, cpu_view, ppu_view};
