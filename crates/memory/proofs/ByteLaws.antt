@@ -1,5 +1,5 @@
 -- Laws of places and bytes.
-use Rattle.std.proofs.Common.{◌≡◌, ℕ, zero, suc, ◌+◌, ◌*◌, ◌%◌, ◌<◌, ◌≤◌, List, [], ◌∷◌, length, set, refl, ap, le_of_suc-le-suc, not-suc-le-zero, arith}
+use Rattle.std.proofs.Common.{◌≡◌, ℕ, zero, suc, ◌%◌, ◌≤◌, List, [], ◌∷◌, length, set, refl, ap, le_of_suc-le-suc, not-suc-le-zero, arith}
 use Rattle.memory.specs.declared.Page.{Page}
 use Rattle.memory.specs.Bytes.{Mem, offset_of, page_stored}
 

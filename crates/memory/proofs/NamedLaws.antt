@@ -1,5 +1,5 @@
 -- A window's word names the window's page, and a page starts at a multiple of 1,024: so page words and page numbers lose nothing of what 01 says of windows.
-use Rattle.std.proofs.Common.{◌≡◌, ℕ, ◌+◌, ◌*◌, ◌/◌, ◌%◌, ◌<◌, ◌≤◌, Bool, true, false, eqb, ltb, sym, refl, ap, ◌∙◌, mul_assoc, arith, lt-ltb}
+use Rattle.std.proofs.Common.{◌≡◌, ℕ, ◌+◌, ◌*◌, ◌/◌, ◌%◌, ◌≤◌, Bool, true, false, eqb, sym, refl, ap, ◌∙◌, mul_assoc, arith, lt-ltb}
 use borrow.Author.Tests.{eqb-false}
 use lib.Arith.{mod-mul}
 use Rattle.memory.specs.declared.Src.{Src}

@@ -1,5 +1,5 @@
 -- Tests: one proof by the two values of a test, and tests that come to the same.
-use Rattle.std.proofs.Common.{◌≡◌, ℕ, zero, suc, ◌<◌, ◌≤◌, Bool, true, false, ◌&&◌, ◌||◌, ltb, leb, List, [], ◌∷◌, get_or, sym, refl, ◌∙◌, ltb-true, lt-ltb, le-leb, leb-true}
+use Rattle.std.proofs.Common.{◌≡◌, ℕ, zero, suc, ◌<◌, ◌≤◌, Bool, true, false, ◌&&◌, ◌||◌, ltb, leb, List, [], ◌∷◌, get_or, sym, refl, ltb-true, lt-ltb, le-leb, leb-true}
 use mathlib.Core.Bool.{false≢true}
 use Rattle.memory.specs.Tests.{conj, pick}
 

@@ -1,10 +1,9 @@
 -- Laws of windows, over their size: a window starts in its buffer, each page follows the page before it, wrapped, and a whole page lies
 -- in the buffer.
-use Rattle.std.proofs.Common.{◌≡◌, ℕ, zero, suc, ◌+◌, ◌-◌, ◌*◌, ◌/◌, ◌%◌, ◌<◌, ◌≤◌, max, Bool, true, false, ltb, leb, List, set, replicate, sym, refl, ap, ◌∙◌, add-zero, mul-le-mul_right, mod-lt, mod-eq_of_lt, add-mul, le-div_iff_mul-le, div-mul-le_self, add-one, arith, ltb-false, ltb-true, le-ltb, lt-ltb, ne_eqb, leb-false, leb-true}
+use Rattle.std.proofs.Common.{◌≡◌, ℕ, zero, suc, ◌+◌, ◌*◌, ◌/◌, ◌%◌, ◌<◌, ◌≤◌, max, Bool, ltb, leb, List, set, replicate, sym, refl, ap, ◌∙◌, add-zero, mul-le-mul_right, mod-lt, mod-eq_of_lt, add-mul, le-div_iff_mul-le, div-mul-le_self, add-one, arith, ltb-false, ltb-true, ne_eqb, leb-false, leb-true}
 use native.Mathlib.Nat.{mod-one, mod-add-mod, mod-eq-sub-mod, div-eq_of_lt}
 use Rattle.memory.specs.declared.PageWord.{PageWord}
 use Rattle.memory.specs.declared.Src.{Src}
-use Rattle.memory.specs.Tests.{pick}
 use Rattle.memory.specs.PageWords.{word, page, word_of}
 use Rattle.memory.specs.Windows.{banks, window_start, page_start, window_page, window_word, prg_window}
 use Rattle.memory.specs.ForCode.{following}

@@ -1,5 +1,5 @@
 -- Laws of page words: taking apart undoes making, and two different pages have different words.
-use Rattle.std.proofs.Common.{◌≡◌, ℕ, ◌+◌, ◌-◌, ◌*◌, ◌/◌, ◌%◌, ◌<◌, ◌≤◌, Bool, true, false, not, ◌&&◌, eqb, ltb, sym, refl, ap, ◌∙◌, arith, ltb-false, ltb-true, le-ltb, lt-ltb, eq-eqb, ne_eqb, eqb-true}
+use Rattle.std.proofs.Common.{◌≡◌, ℕ, ◌+◌, ◌-◌, ◌*◌, ◌/◌, ◌%◌, ◌<◌, ◌≤◌, Bool, true, false, eqb, ltb, sym, refl, ap, ◌∙◌, arith, ltb-false, ltb-true, eq-eqb, ne_eqb, eqb-true}
 use mathlib.Core.Bool.{false≢true}
 use mir.Val.{bool_byte}
 use Rattle.memory.specs.declared.Page.{Page}
@@ -9,7 +9,7 @@ use Rattle.memory.specs.declared.Src.TheVariants.{Blank, PrgRom, PrgRam, Chr, Ci
 use Rattle.memory.specs.Bits.{as_bit}
 use Rattle.memory.specs.PageWords.{word, page, blank, word_number, word_of, page_of}
 use Rattle.memory.specs.Named.{named, named_as}
-use Rattle.memory.proofs.Tests.{split, and_left, and_right, and_false}
+use Rattle.memory.proofs.Tests.{split, and_left, and_false}
 
 -- A bool as a number.
 pub bit_is : (b : Bool) → bool_byte b ≡ as_bit b

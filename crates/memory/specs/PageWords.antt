@@ -2,7 +2,7 @@
 -- that a buffer within 01's lengths can have, marked writable where 01 allows it, has a word of its own (`Pages` in Promise.antt). The numbers are chosen
 -- so that the words that a page table may hold lie in a row (`tables.rt`).
 -- 01, module 1: "1,024 bytes each; 64 PRG, 16 CHR. Blank reads 0 and takes no write."
-use Rattle.std.specs.Prelude.{ℕ, ◌+◌, ◌-◌, ◌*◌, ◌/◌, ◌%◌, Bool, true, false, not, ◌&&◌, ◌==◌, nat_lt}
+use Rattle.std.specs.Prelude.{ℕ, ◌+◌, ◌-◌, ◌*◌, ◌/◌, ◌%◌, Bool, true, false, ◌==◌, nat_lt}
 use Rattle.memory.specs.Bits.{as_bit}
 use Rattle.memory.specs.Tests.{pick}
 use Rattle.memory.specs.declared.Page.{Page}

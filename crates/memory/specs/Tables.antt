@@ -1,6 +1,6 @@
 -- What a page table may hold. 01, "STATE ranges": "each page blank or a whole page of a buffer its table may show. PRG pages show PRG-ROM,
 -- PRG-RAM or ExRAM; CHR pages show CHR, CIRAM or ExRAM. Blank pages, PRG-ROM and CHR that load took as ROM are never marked writable."
-use Rattle.std.specs.Prelude.{ℕ, ◌+◌, ◌*◌, Bool, true, false, not, ◌&&◌, ◌||◌, List, nat_le}
+use Rattle.std.specs.Prelude.{ℕ, ◌+◌, ◌*◌, Bool, false, not, ◌&&◌, ◌||◌, List, nat_le}
 use Rattle.memory.specs.declared.Page.{Page}
 use Rattle.memory.specs.declared.PageWord.{PageWord}
 use Rattle.memory.specs.declared.Src.{Src}

@@ -1,6 +1,6 @@
 -- Windows, over their size. 01, module 2: "For a PRG window of 8,192: banks = max(1, length / 8,192); start = (bank mod banks) x 8,192; page i
 -- starts at (start + 1,024 i) mod length. CHR windows are one page, number mod pages. An empty buffer maps blank."
-use Rattle.std.specs.Prelude.{ℕ, ◌+◌, ◌-◌, ◌*◌, ◌/◌, ◌%◌, max, Bool, List, [], ◌∷◌, map, ◌==◌}
+use Rattle.std.specs.Prelude.{ℕ, ◌+◌, ◌*◌, ◌/◌, ◌%◌, max, Bool, List, [], ◌∷◌, map, ◌==◌}
 use Rattle.memory.specs.declared.Page.{Page}
 use Rattle.memory.specs.declared.PageWord.{PageWord}
 use Rattle.memory.specs.declared.Src.{Src}
