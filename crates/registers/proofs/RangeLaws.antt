@@ -1,10 +1,10 @@
 -- The ranges of the small registers as facts with names, and that load and every write leave them so.
-use Prim.Native.Nat.{ℕ, ◌*◌, ◌%◌, ◌≤◌}
-use mathlib.Core.Bool.{Bool, true, false, ◌&&◌}
+use Prim.Native.Nat.{ℕ, ◌%◌, ◌≤◌}
+use mathlib.Core.Bool.{true}
 use mathlib.Core.Path.{◌≡◌, refl}
 use native.Mathlib.Omega.{arith}
 use borrow.Author.Tests.{leb-true, eqb-true, le-leb, eq-eqb}
-use lib.Dec.{eqb, leb}
+use lib.Dec.{eqb}
 use Rattle.memory.proofs.Tests.{pick_keeps, conj_at}
 use Rattle.registers.specs.declared.Regs.{Regs}
 use Rattle.registers.specs.Registers.{regs_at_load, written, attribute_use, regs_ranges, regs_ok}
