@@ -1,6 +1,6 @@
 -- Laws of the places: 01's formulas of bits are sums of digits, and what they name lies in ExRAM and in CHR.
 use Prim.Native.Nat.{ℕ, ◌+◌, ◌*◌, ◌/◌, ◌%◌, ◌^◌, ◌<◌, ◌≤◌}
-use mathlib.Core.Path.{◌≡◌, refl, ap, ◌∙◌}
+use mathlib.Core.Path.{◌≡◌, ap, ◌∙◌}
 use native.Mathlib.Omega.{arith}
 use native.Mathlib.Nat.{lt_of_lt_of_le, div-eq_of_lt}
 use lib.Bits.{and_high, and_mask, or_shifted}

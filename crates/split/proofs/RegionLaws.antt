@@ -5,13 +5,13 @@ use mathlib.Core.Path.{◌≡◌, refl, sym, ap, ◌∙◌}
 use native.Mathlib.Omega.{arith}
 use borrow.Author.Tests.{ltb-true, ltb-false, lt-ltb, ne_eqb}
 use lib.Bits.{and_high, or_add_and, or_shifted}
-use lib.Dec.{eqb, ltb}
+use lib.Dec.{ltb}
 use Rattle.memory.specs.Tests.{pick}
 use Rattle.memory.proofs.Tests.{split}
 use Rattle.split.specs.declared.VSplit.{VSplit}
 use Rattle.memory.specs.Bits.{◌AND◌, ◌OR◌, ◌<<◌}
 use Rattle.split.specs.Control.{split_ranges}
-use Rattle.split.specs.Region.{scroll_of, side_at, region_at, split_address, with_region, after_name}
+use Rattle.split.specs.Region.{scroll_of, region_at, split_address, with_region, after_name}
 use Rattle.split.specs.Promise.{Column32, InRegion}
 use Rattle.split.proofs.ControlLaws.{tile_in_range, address_in_range, in_ranges}
 

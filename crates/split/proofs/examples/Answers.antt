@@ -4,12 +4,8 @@ use Rattle.memory.specs.Tests.{all}
 use Rattle.split.specs.Examples.{Examples, split_cases}
 use Rattle.split.specs.Places.{attribute_address, attribute_shift, mirrored_byte, pattern_offset}
 use Rattle.split.specs.Region.{side_at, region_at, split_address, after_name}
-use Rattle.split.proofs.examples.Statement.{statement}
-use Rattle.split.proofs.examples.Tie as tie
+use Rattle.split.proofs.examples.Goals as goal
 
-returns : tie.Need-returns
+pub returns : goal.returns
 unfolding all split_cases Examples side_at region_at split_address after_name attribute_address attribute_shift mirrored_byte pattern_offset
 returns c = refl
-
-pub examples-spec : {M : Type 1} → statement M
-examples-spec = tie.close (tie.spec returns)
