@@ -8,7 +8,7 @@ use borrow.Author.Tests.{ltb-true, lt-ltb, le-leb, eq-eqb, ne_eqb}
 use lib.Dec.{eqb, leb, ltb}
 use Rattle.memory.specs.Bits.{bit_set}
 use Rattle.memory.specs.Tests.{pick}
-use Rattle.memory.proofs.Tests.{same_test, split, and_false}
+use Rattle.memory.proofs.Tests.{same_test, split}
 use Rattle.scanline.specs.declared.Detector.{Detector}
 use Rattle.scanline.specs.Tiles.{column_of}
 use Rattle.scanline.specs.Steps.{matches_after, is_line, line_number, meets, seen_at, darkened, status_read, vector_read}

@@ -8,12 +8,8 @@ use Rattle.scanline.specs.Tiles.{sprite_fetch, column_of, is_prefetched, is_firs
 use Rattle.scanline.proofs.ClockLaws.{same_clock}
 use Rattle.scanline.proofs.FoldLaws.{turns, four_looks}
 use Rattle.scanline.proofs.RangeLaws.{ranges_kept}
-use Rattle.scanline.proofs.promises.Statement.{statement}
-use Rattle.scanline.proofs.promises.Tie as tie
+use Rattle.scanline.proofs.promises.Goals as goal
 
-returns : tie.Need-returns
+pub returns : goal.returns
 unfolding detector_ok line_refused counter_refused sprite_fetch column_of is_prefetched is_first fold tiles_ok next_tile tick again matches_after is_line meets seen_at all
 returns c = (ranges_kept, same_clock, turns, four_looks, tt)
-
-pub promises-spec : {M : Type 1} → statement M
-promises-spec = tie.close (tie.spec returns)
