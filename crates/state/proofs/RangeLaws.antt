@@ -1,6 +1,5 @@
 -- The ranges of a state as facts with names: each from the test of all, and the test of all from each.
-use Prim.Native.Nat.{ℕ}
-use mathlib.Core.Bool.{Bool, true}
+use mathlib.Core.Bool.{true}
 use mathlib.Core.Path.{◌≡◌}
 use lib.Dec.{leb}
 use Rattle.memory.specs.Tables.{prg_table_ok, chr_table_ok}
