@@ -4,4 +4,3 @@ pub mod RecordLaws
 pub mod CartridgeLaws
 pub mod WrongLaws
 pub mod WrittenLaws
-pub mod ReaderCalls

@@ -1,6 +1,5 @@
 -- A call's record that stands at a place is read as that call, and a call is read from its record only.
 use Prim.Native.Nat.{ℕ, zero, suc, ◌+◌, ◌-◌, ◌*◌, ◌/◌, ◌%◌, ◌<◌, ◌≤◌}
-use mathlib.Core.Bool.{true, false}
 use mathlib.Core.List.{List, [], ◌∷◌, ◌++◌, append_assoc}
 use mathlib.Core.Path.{◌≡◌, refl, sym, ap, ◌∙◌}
 use native.Mathlib.Nat.{add-zero}
@@ -13,13 +12,12 @@ use lib.Seq.{drop-cons, drop-drop, get_or-drop, length-take-le, drop-append_seam
 use Rattle.memory.proofs.Tests.{split}
 use Rattle.trace.specs.declared.Call.{Call}
 use Rattle.trace.specs.declared.Call.TheVariants.{Clock, CpuRead, CpuWrite, PpuRegister, PpuFetch, Reset, PpuWrite}
-use Rattle.trace.specs.declared.Found.{Found}
-use Rattle.trace.specs.declared.Found.TheVariants.{End, Record, Refused}
+use Rattle.trace.specs.declared.Found.TheVariants.{Record}
 use Rattle.trace.specs.declared.Numeral.TheVariants.{Sound}
-use Rattle.trace.specs.Numbers.{grouped, numeral, limited, number_at, address_at, value_at}
+use Rattle.trace.specs.Numbers.{grouped, numeral, limited, number_at}
 use Rattle.trace.specs.Records.{Form, whole, address, value, unknown, form_of, kind_of, numbered, filled, record_at}
-use Rattle.trace.specs.Promise.{InRange, SoundRecord, Bytes, shortest, numbers_of, record_of, Stands}
-use Rattle.trace.proofs.NumberLaws.{clash, within_limit, number_advances}
+use Rattle.trace.specs.Promise.{InRange, SoundRecord, Bytes, shortest, numbers_of, Stands}
+use Rattle.trace.proofs.NumberLaws.{clash, number_advances}
 use Rattle.trace.proofs.FormLaws.{number_form, over_more}
 use Rattle.trace.proofs.RecordLaws.{by_kind, kind_left, Number-read, numbered_record, record_sound}
 use Rattle.trace.proofs.WrongLaws.{power}

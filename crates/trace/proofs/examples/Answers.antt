@@ -3,8 +3,7 @@ use mathlib.Core.Path.{refl}
 use Rattle.trace.specs.Numbers.{grouped, numeral, limited}
 use Rattle.trace.specs.Records.{numbered, filled, record_at}
 use Rattle.trace.specs.Examples.{Worked, Kinds, Edges}
-use Rattle.trace.proofs.examples.Statement.{statement}
-use Rattle.trace.proofs.examples.Tie as tie
+use Rattle.trace.proofs.examples.Goals as goal
 
 worked-input : Worked
 unfolding grouped numeral limited numbered filled record_at
@@ -18,8 +17,5 @@ edges : Edges
 unfolding grouped numeral limited numbered filled record_at
 edges = record { nothing = refl; past = refl; zero = refl; largest_address = refl; address_above = refl; fourth_group = refl; largest_value = refl; value_above = refl; third_group = refl; cut_address = refl; no_address = refl; no_value = refl; padded = refl; padded_twice = refl; padded_value = refl }
 
-returns : tie.Need-returns
+pub returns : goal.returns
 returns c = record { worked_input = worked-input; kinds = kinds; edges = edges }
-
-pub examples-spec : {M : Type 1} → statement M
-examples-spec = tie.close (tie.spec returns)
