@@ -2,11 +2,7 @@
 use Rattle.text.proofs.SheetLaws.{joined, fits, full}
 use Rattle.text.proofs.DigitLaws.{all_digits, read_back, first_digit, only_digits, few_digits}
 use Rattle.text.proofs.LineLaws.{logged}
-use Rattle.text.proofs.promises.Statement.{statement}
-use Rattle.text.proofs.promises.Tie as tie
+use Rattle.text.proofs.promises.Goals as goal
 
-returns : tie.Need-returns
+pub returns : goal.returns
 returns c = record { joined = joined; fits = fits; full = full; decimal = all_digits; value = read_back; no_zero = first_digit; only = only_digits; few = few_digits; logged = logged }
-
-pub promises-spec : {M : Type 1} → statement M
-promises-spec = tie.close (tie.spec returns)
