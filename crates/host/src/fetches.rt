@@ -32,8 +32,7 @@ fn map_on_change(before: bool, after: bool, words: &mut [u16; 144])
 }
 
 // A PPU fetch.
-#[unsafe(no_mangle)]
-pub extern "C" fn mmc5_ppu_fetch(
+pub fn mmc5_ppu_fetch(
     words: &mut [u16; 144],
     prg: &[u8],
     chr: &[u8],

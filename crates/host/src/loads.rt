@@ -10,8 +10,7 @@ use host_state::{read, whole_state};
 
 // CHR is writable where the byte is not 0; mirroring is 0 to 4, and 4 stands for what is above. What the words held does not matter. A refused
 // load leaves the zero state.
-#[unsafe(no_mangle)]
-pub extern "C" fn mmc5_load(
+pub fn mmc5_load(
     words: &mut [u16; 144],
     prg: &[u8],
     chr: &[u8],

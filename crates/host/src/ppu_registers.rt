@@ -9,8 +9,7 @@ use host_state::{gate, groups, limits, read};
 use memory::CpuAddr;
 
 // A PPU register write.
-#[unsafe(no_mangle)]
-pub extern "C" fn mmc5_ppu_register(words: &mut [u16; 144], addr: u16, val: u8) -> u32
+pub fn mmc5_ppu_register(words: &mut [u16; 144], addr: u16, val: u8) -> u32
     ensures { left_words result words.new ≡ on_words words.old (λ (s : State). ppu_register_call s addr val) }
 {
     limits::sized(*words);

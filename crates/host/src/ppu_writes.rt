@@ -11,8 +11,7 @@ use memory::PpuAddr;
 use state::gate::Gate;
 
 // A PPU memory write.
-#[unsafe(no_mangle)]
-pub extern "C" fn mmc5_ppu_write(
+pub fn mmc5_ppu_write(
     words: &mut [u16; 144],
     prg: &[u8],
     chr: &mut [u8],

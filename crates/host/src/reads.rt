@@ -11,8 +11,7 @@ use memory::CpuAddr;
 use state::gate::Gate;
 
 // A CPU read.
-#[unsafe(no_mangle)]
-pub extern "C" fn mmc5_cpu_read(
+pub fn mmc5_cpu_read(
     words: &mut [u16; 144],
     prg: &[u8],
     chr: &[u8],

@@ -8,8 +8,7 @@ use answers::{Answer, Refusal};
 use host_state::{gate, groups, limits, read};
 
 // Modes 8k and 1k.
-#[unsafe(no_mangle)]
-pub extern "C" fn mmc5_reset(words: &mut [u16; 144]) -> u32
+pub fn mmc5_reset(words: &mut [u16; 144]) -> u32
     ensures { left_words result words.new ≡ on_words words.old (λ (s : State). reset_call s) }
 {
     limits::sized(*words);

@@ -69,8 +69,7 @@ fn write_other(words: &mut [u16; 144], addr: CpuAddr, val: u8)
 }
 
 // A CPU write.
-#[unsafe(no_mangle)]
-pub extern "C" fn mmc5_cpu_write(
+pub fn mmc5_cpu_write(
     words: &mut [u16; 144],
     prg: &[u8],
     chr: &mut [u8],

@@ -47,8 +47,7 @@ fn entry_number(page: Page) -> u32
 }
 
 // The PRG table's entry at a CPU address.
-#[unsafe(no_mangle)]
-pub extern "C" fn mmc5_cpu_entry(words: &[u16; 144], addr: u16) -> u32
+pub fn mmc5_cpu_entry(words: &[u16; 144], addr: u16) -> u32
     ensures { result ≡ entry_on words.now (λ (s : State). page_of (prg_word_at s.prg_pages addr)) }
 {
     let in_range = gate::in_range(words);
@@ -58,8 +57,7 @@ pub extern "C" fn mmc5_cpu_entry(words: &[u16; 144], addr: u16) -> u32
 }
 
 // The CHR table's entry at a PPU address.
-#[unsafe(no_mangle)]
-pub extern "C" fn mmc5_ppu_entry(words: &[u16; 144], addr: u16) -> u32
+pub fn mmc5_ppu_entry(words: &[u16; 144], addr: u16) -> u32
     ensures { result ≡ entry_on words.now (λ (s : State). page_of (chr_word_at s.chr_pages addr)) }
 {
     let in_range = gate::in_range(words);
@@ -85,8 +83,7 @@ fn copy(part: &[u8], out: &mut [u8]) -> u32
 }
 
 // The bytes that the page at a CPU address shows of PRG-ROM or of PRG-RAM.
-#[unsafe(no_mangle)]
-pub extern "C" fn mmc5_cpu_page<'a>(
+pub fn mmc5_cpu_page<'a>(
     words: &[u16; 144],
     prg: &'a [u8],
     chr: &[u8],
@@ -104,8 +101,7 @@ pub extern "C" fn mmc5_cpu_page<'a>(
 }
 
 // The bytes that the page at a PPU address shows of CHR.
-#[unsafe(no_mangle)]
-pub extern "C" fn mmc5_ppu_page(
+pub fn mmc5_ppu_page(
     words: &[u16; 144],
     prg: &[u8],
     chr: &[u8],

@@ -11,8 +11,7 @@ use host_state::whole_state;
 use memory::{CpuAddr, PpuAddr};
 
 // A CPU peek.
-#[unsafe(no_mangle)]
-pub extern "C" fn mmc5_cpu_peek(
+pub fn mmc5_cpu_peek(
     words: &[u16; 144],
     prg: &[u8],
     chr: &[u8],
@@ -29,8 +28,7 @@ pub extern "C" fn mmc5_cpu_peek(
 }
 
 // A PPU peek.
-#[unsafe(no_mangle)]
-pub extern "C" fn mmc5_ppu_peek(
+pub fn mmc5_ppu_peek(
     words: &[u16; 144],
     prg: &[u8],
     chr: &[u8],
@@ -47,8 +45,7 @@ pub extern "C" fn mmc5_ppu_peek(
 }
 
 // A sprite peek.
-#[unsafe(no_mangle)]
-pub extern "C" fn mmc5_sprite_peek(
+pub fn mmc5_sprite_peek(
     words: &[u16; 144],
     prg: &[u8],
     chr: &[u8],

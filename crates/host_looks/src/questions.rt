@@ -10,8 +10,7 @@ use board::{InterruptAnswer, MirroringAnswer};
 use host_state::{gate, read};
 
 // The mirroring, 0 to 4.
-#[unsafe(no_mangle)]
-pub extern "C" fn mmc5_mirroring(words: &[u16; 144]) -> u32
+pub fn mmc5_mirroring(words: &[u16; 144]) -> u32
     ensures { result ≡ look_on words.now answer_mirroring (λ (s : State). mirroring_call s) }
 {
     if !gate::in_range(words) {
@@ -22,8 +21,7 @@ pub extern "C" fn mmc5_mirroring(words: &[u16; 144]) -> u32
 }
 
 // Whether the interrupt is up, 0 or 1.
-#[unsafe(no_mangle)]
-pub extern "C" fn mmc5_interrupt(words: &[u16; 144]) -> u32
+pub fn mmc5_interrupt(words: &[u16; 144]) -> u32
     ensures { result ≡ look_on words.now answer_interrupt (λ (s : State). interrupt_call s) }
 {
     if !gate::in_range(words) {

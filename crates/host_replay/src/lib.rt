@@ -25,8 +25,7 @@ fn ending_number(ending: Ending) -> u32
 }
 
 // Plays a trace, and logs each answer.
-#[unsafe(no_mangle)]
-pub extern "C" fn mmc5_replay(
+pub fn mmc5_replay(
     words: &mut [u16; 144],
     prg: &[u8],
     chr: &mut [u8],

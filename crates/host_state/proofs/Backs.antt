@@ -1,17 +1,13 @@
 -- Words in range are the words of their state: what is read from them, put back, leaves them as they are.
 use Prim.Native.Nat.{ℕ, zero, suc, ◌+◌, ◌*◌, ◌-◌, ◌/◌, ◌%◌, ◌<◌, ◌≤◌}
-use mathlib.Core.Bool.{Bool, true, false}
+use mathlib.Core.Bool.{true}
 use mathlib.Core.List.{List, [], ◌∷◌, ◌++◌, map}
-use mathlib.Core.Path.{◌≡◌, refl, sym, ap, ◌∙◌}
+use mathlib.Core.Path.{◌≡◌, refl, ap, ◌∙◌}
 use native.Mathlib.Omega.{arith}
 use lib.Dec.{eqb}
 use lib.ListN.{length, get_or, take, drop, length-drop, take-append-drop, get_or-map}
 use lib.Seq.{take_all, drop-drop}
 use Rattle.memory.specs.Bits.{as_bit}
-use Rattle.memory.specs.Tests.{pick}
-use Rattle.memory.specs.PageWords.{word}
-use Rattle.memory.specs.declared.PageWord.{PageWord}
-use Rattle.state.specs.declared.State.{State}
 use Rattle.state.specs.Ranges.{in_range}
 use Rattle.host_state.specs.Words.{limits, within_limits, flag_at, byte_at, low_byte, in_word, mirroring_numbered, number_of_mirroring, pages_of, numbers_of, prg_numbers, chr_numbers, numbers_at, state_of, words_of}
 use Rattle.host_state.proofs.PartLaws.{part_at}

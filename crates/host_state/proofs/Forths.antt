@@ -1,17 +1,15 @@
 -- A state in range that fits its types: its words are within their limits, and read again they are the state.
-use Prim.Native.Nat.{ℕ, zero, suc, ◌+◌, ◌*◌, ◌-◌, ◌/◌, ◌%◌, ◌<◌, ◌≤◌}
-use mathlib.Core.Bool.{Bool, true, false, ◌&&◌}
-use mathlib.Core.List.{List, [], ◌∷◌, ◌++◌, map}
-use mathlib.Core.Path.{◌≡◌, refl, sym, ap, ◌∙◌}
+use Prim.Native.Nat.{ℕ, ◌+◌, ◌*◌, ◌-◌, ◌/◌, ◌%◌, ◌≤◌}
+use mathlib.Core.Bool.{Bool, true, false}
+use mathlib.Core.List.{List, [], ◌∷◌}
+use mathlib.Core.Path.{◌≡◌, refl, ap, ◌∙◌}
 use native.Mathlib.Omega.{arith}
 use borrow.Author.Tests.{le-leb, leb-true, eqb-true}
 use lib.Dec.{eqb, leb}
-use lib.ListN.{length, get_or, take, drop, length-map}
+use lib.ListN.{length, take}
 use lib.Seq.{take_all, take_at, drop_at}
 use Rattle.memory.specs.declared.PageWord.{PageWord}
 use Rattle.memory.specs.Bits.{as_bit}
-use Rattle.memory.specs.Tests.{pick}
-use Rattle.memory.specs.PageWords.{word}
 use Rattle.memory.proofs.Tests.{conj_at, and_left, and_right}
 use Rattle.registers.specs.declared.Mirroring.{Mirroring}
 use Rattle.registers.specs.declared.Mirroring.TheVariants.{Horizontal, Vertical, SingleScreenA, SingleScreenB, FourScreen}
@@ -25,10 +23,10 @@ use Rattle.state.specs.declared.Lengths.{Lengths}
 use Rattle.state.specs.declared.PpuStatus.{PpuStatus}
 use Rattle.state.specs.declared.State.{State}
 use Rattle.state.specs.Ranges.{in_range}
-use Rattle.state.proofs.RangeLaws.{Ranged, ranged}
+use Rattle.state.proofs.RangeLaws.{ranged}
 use Rattle.state.proofs.SizeLaws.{Taken, lengths_say}
 use Rattle.host_state.specs.Fits.{Fits}
-use Rattle.host_state.specs.Words.{limits, all_within, within_limits, in_word, mirroring_numbered, number_of_mirroring, page_number, pages_of, numbers_of, state_of, words_of}
+use Rattle.host_state.specs.Words.{limits, all_within, within_limits, in_word, mirroring_numbered, number_of_mirroring, pages_of, numbers_of, state_of, words_of}
 use Rattle.host_state.proofs.PartLaws.{numbers_length}
 use Rattle.host_state.proofs.PutLaws.{listed}
 

@@ -1,22 +1,21 @@
 -- Words within their limits: the ranges of the state that they stand for.
-use Prim.Native.Nat.{ℕ, ◌+◌, ◌*◌, ◌/◌, ◌%◌, ◌<◌, ◌≤◌}
-use mathlib.Core.Bool.{Bool, true, false, ◌&&◌, false≢true}
+use Prim.Native.Nat.{ℕ, ◌+◌, ◌*◌, ◌%◌, ◌<◌, ◌≤◌}
+use mathlib.Core.Bool.{true, false, ◌&&◌, false≢true}
 use mathlib.Core.List.{List}
-use mathlib.Core.Path.{◌≡◌, refl, sym, ap, ◌∙◌}
+use mathlib.Core.Path.{◌≡◌, sym, ◌∙◌}
 use native.Mathlib.Omega.{arith}
 use borrow.Author.Tests.{le-leb, eq-eqb}
 use lib.Dec.{leb, eqb}
-use lib.ListN.{length, get_or}
+use lib.ListN.{get_or}
 use Rattle.memory.specs.Tables.{prg_table_ok, chr_table_ok}
-use Rattle.memory.specs.Tests.{pick}
-use Rattle.memory.proofs.Tests.{split, and_false}
+use Rattle.memory.proofs.Tests.{split}
 use Rattle.registers.specs.Registers.{regs_ok}
 use Rattle.scanline.specs.Ranges.{detector_ok}
 use Rattle.scanline.specs.Tiles.{tiles_ok}
 use Rattle.split.specs.Control.{split_ranges}
 use Rattle.state.specs.Lengths.{lengths_ok}
 use Rattle.state.specs.Ranges.{in_range}
-use Rattle.host_state.specs.Words.{limits, within_limits, flag_at, byte_at, lengths_of, regs_of, split_of, detector_of, status_of, with_no_tile, pages_of, prg_numbers, chr_numbers, state_of}
+use Rattle.host_state.specs.Words.{limits, within_limits, flag_at, lengths_of, regs_of, split_of, detector_of, pages_of, prg_numbers, chr_numbers, state_of}
 use Rattle.host_state.proofs.LimitLaws.{within_at}
 
 -- A word and its limit.
