@@ -3,11 +3,13 @@
 // `stdin` and `stdout` are 01's worked example.
 #![tactic(auto)]
 
+use std::io;
+
 // The text stands whole in `out`: `TranscriptIsHistory.whole`, crates/theorems_host/specs/Printed.antt.
-fn main() {
-    let mut input = io::large_buffer();
+fn main(rt: HostRuntime) -> io::Result<()> {
+    let mut input = [0u8; 65536];
     let mut out = [0u8; 131072];
-    let n = io::read_full(libc::STDIN_FILENO, &mut input);
+    let n = print::read_input(&rt, &mut input)?;
     let length = transcript::cartridge::transcribe(&mut out, &input[..n]);
-    print::print_first(&out, length);
+    print::print_first(&rt, &out, length)
 }

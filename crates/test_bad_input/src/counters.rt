@@ -5,26 +5,27 @@ ghost use Rattle.std.specs.Prelude.{◌≤◌};
 use crate::{lengths, lent, print_answer};
 use print::{print_number, print_text};
 use state::State;
+use std::io;
 
-fn shown(line: u16, tile: u32, addr: u16) {
-    print_text(b"line ");
-    print_number(line as u64);
-    print_text(b", tile ");
-    print_number(tile as u64);
-    print_text(b", fetch ");
-    print_number(addr as u64);
+fn shown(rt: &impl Print, line: u16, tile: u32, addr: u16) -> io::Result<()> {
+    print_text(rt, b"line ")?;
+    print_number(rt, line as u64)?;
+    print_text(rt, b", tile ")?;
+    print_number(rt, tile as u64)?;
+    print_text(rt, b", fetch ")?;
+    print_number(rt, addr as u64)
 }
 
-fn fetched(s: State, addr: u16) -> State {
-    shown(s.irq.scanline, s.ppu.tile_number, addr);
+fn fetched(rt: &impl Print, s: State, addr: u16) -> io::Result<State> {
+    shown(rt, s.irq.scanline, s.ppu.tile_number, addr)?;
     let got = lent::by_number(lent::FETCH, s, addr, lengths::AS_RECORDED);
     let answer = got.answer;
-    print_answer(answer);
-    got.state
+    print_answer(rt, answer)?;
+    Ok(got.state)
 }
 
 // Each run's fetches, from one place of the table to another.
-fn fetches(s: State, first: usize, last: usize)
+fn fetches(rt: &impl Print, s: State, first: usize, last: usize) -> io::Result<()>
     requires { last ≤ 19 }
 {
     let table: [u16; 19] = [
@@ -33,8 +34,9 @@ fn fetches(s: State, first: usize, last: usize)
     ];
     let mut t = s;
     for i in first..last {
-        t = fetched(t, table[i]);
+        t = fetched(rt, t, table[i])?;
     }
+    Ok(())
 }
 
 fn counting(s: State, in_frame: bool, line: u16, tile: u32) -> State {
@@ -48,11 +50,11 @@ fn counting(s: State, in_frame: bool, line: u16, tile: u32) -> State {
 // Three equal fetches make a line. 01, "Examples at the edges": "In frame, line counter 65,278 takes a line, 65,279 refuses." Out of frame a line
 // starts from 0. A name fetch to $2FFF counts; an attribute fetch does not, nor a fetch from $3000 on. The third equal fetch zeroes the tile count. CR 7:
 // "5 uses the new range", 0 to 83.
-pub fn each(s: State) {
-    fetches(counting(s, true, 65278, 0), 0, 7);
-    fetches(counting(s, false, 65279, 0), 7, 11);
-    fetches(counting(s, false, 0, 82), 11, 15);
-    fetches(counting(s, false, 0, 81), 15, 19);
-    fetches(counting(s, false, 0, 84), 0, 1);
-    fetches(counting(s, false, 0, 4294967295), 0, 1);
+pub fn each(rt: &impl Print, s: State) -> io::Result<()> {
+    fetches(rt, counting(s, true, 65278, 0), 0, 7)?;
+    fetches(rt, counting(s, false, 65279, 0), 7, 11)?;
+    fetches(rt, counting(s, false, 0, 82), 11, 15)?;
+    fetches(rt, counting(s, false, 0, 81), 15, 19)?;
+    fetches(rt, counting(s, false, 0, 84), 0, 1)?;
+    fetches(rt, counting(s, false, 0, 4294967295), 0, 1)
 }

@@ -7,6 +7,7 @@ ghost use Rattle.std.specs.Prelude.{◌≤◌, length};
 use answers::Answer;
 use print::{print_number, print_text};
 use state::State;
+use std::io;
 
 mod broken;
 mod counters;
@@ -14,14 +15,13 @@ mod lengths;
 mod lent;
 
 // What a call got, as the end of a line.
-pub fn print_answer(answer: Answer) {
+pub fn print_answer(rt: &impl Print, answer: Answer) -> io::Result<()> {
     if let Answer::Refused(refusal) = answer {
-        print_text(b": ");
-        print_number(answers::number_of(refusal) as u64);
-        print_text(b"\n");
-        return;
+        print_text(rt, b": ")?;
+        print_number(rt, answers::number_of(refusal) as u64)?;
+        return print_text(rt, b"\n");
     }
-    print_text(b": taken\n");
+    print_text(rt, b": taken\n")
 }
 
 // Where the line ends that holds a place.
@@ -40,58 +40,60 @@ fn line_end(text: &[u8], at: usize) -> usize
 }
 
 // A call over the buffers of a try, and what it got.
-fn answered(kind: u8, s: State, addr: u16, n: u8) {
+fn answered(rt: &impl Print, kind: u8, s: State, addr: u16, n: u8) -> io::Result<()> {
     let got = lent::by_number(kind, s, addr, n);
     let answer = got.answer;
-    print_answer(answer);
+    print_answer(rt, answer)
 }
 
 // A try over the state that its number breaks: a load, or a CPU read of $8000.
-fn tried(s: State, n: u8) {
+fn tried(rt: &impl Print, s: State, n: u8) -> io::Result<()> {
     let t = broken::broken(n, s);
     if n < lengths::FIRST_READ {
-        return answered(lent::LOAD, t, 0, n);
+        return answered(rt, lent::LOAD, t, 0, n);
     }
-    answered(lent::READ, t, 0x8000, n);
+    answered(rt, lent::READ, t, 0x8000, n)
 }
 
 // The tries in turn: each line of `labels` says what one is.
-fn tries(labels: &[u8], s: State) {
+fn tries(rt: &impl Print, labels: &[u8], s: State) -> io::Result<()> {
     let mut n = 0u8;
     let mut at = 0;
     while at < labels.len() {
         let end = line_end(labels, at);
-        print_text(&labels[at..end]);
-        tried(s, n);
+        print_text(rt, &labels[at..end])?;
+        tried(rt, s, n)?;
         if n == 255 {
-            return;
+            return Ok(());
         }
         n += 1;
         at = end + 1;
     }
+    Ok(())
 }
 
 // What was called, and where.
-fn address(label: &[u8], addr: u16) {
-    print_text(label);
-    print_number(addr as u64);
+fn address(rt: &impl Print, label: &[u8], addr: u16) -> io::Result<()> {
+    print_text(rt, label)?;
+    print_number(rt, addr as u64)
 }
 
 // A read, a peek and a write, over buffers of the recorded lengths.
-fn audio(s: State, addr: u16) {
-    address(b"read ", addr);
-    answered(lent::READ, s, addr, lengths::AS_RECORDED);
-    address(b"peek ", addr);
-    answered(lent::PEEK, s, addr, lengths::AS_RECORDED);
-    address(b"write ", addr);
-    print_answer(lent::written(s, addr));
+fn audio(rt: &impl Print, s: State, addr: u16) -> io::Result<()> {
+    address(rt, b"read ", addr)?;
+    answered(rt, lent::READ, s, addr, lengths::AS_RECORDED)?;
+    address(rt, b"peek ", addr)?;
+    answered(rt, lent::PEEK, s, addr, lengths::AS_RECORDED)?;
+    address(rt, b"write ", addr)?;
+    print_answer(rt, lent::written(s, addr))
 }
 
 // $5000-$5016, at the audio registers and beside them.
-fn audio_registers(s: State) {
+fn audio_registers(rt: &impl Print, s: State) -> io::Result<()> {
     for addr in 0x5000..0x5017u16 {
-        audio(s, addr);
+        audio(rt, s, addr)?;
     }
+    Ok(())
 }
 
 // A load over buffers of the recorded lengths. It takes no state; a refused one gives the state to hand in.
@@ -102,9 +104,10 @@ fn loaded() -> State {
     load.state
 }
 
-fn main() {
+fn main(rt: HostRuntime) -> io::Result<()> {
     let s = loaded();
     tries(
+        &rt,
         b"load\n\
         load PRG-ROM 4,096\n\
         load CHR 2,000\n\
@@ -143,7 +146,7 @@ fn main() {
         CHR past its end\n\
         CHR-ROM marked writable",
         s,
-    );
-    audio_registers(s);
-    counters::each(s);
+    )?;
+    audio_registers(&rt, s)?;
+    counters::each(&rt, s)
 }

@@ -22,6 +22,7 @@ fn tile_of(b: &[u8]) -> u32
 }
 
 // What a board keeps of a full tile count.
+#[tactic(auto, unfolding(scanline::specs::Tiles::fold))]
 fn kept(full: u32) -> u32
     ensures { result ≡ fold full }
 {
@@ -42,6 +43,7 @@ fn in_frame(s: State, line: u16, tile: u32) -> State
 }
 
 // The state in frame with the case's counters, where it has some.
+#[tactic(auto, unfolding(crate::specs::Counters::start_of))]
 pub fn start(kind: u8, b: &[u8], s: State) -> State
     ensures { result ≡ start_of kind b.now s }
 {

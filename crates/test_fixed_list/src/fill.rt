@@ -4,6 +4,7 @@ ghost use Rattle.test_fixed_list.specs.Fill.{plain_byte, mixed_byte, fill_byte, 
 
 use crate::head::wide;
 
+#[tactic(auto, unfolding(crate::specs::Fill::plain_byte))]
 fn plain_byte(buffer: u8, offset: usize) -> u8
     ensures { result ≡ plain_byte buffer offset }
 {
@@ -24,6 +25,7 @@ fn mixed_byte(seed: u8, buffer: u8, offset: usize) -> u8
     (sum % 256) as u8
 }
 
+#[tactic(auto, unfolding(crate::specs::Fill::fill_byte))]
 fn fill_byte(seed: u8, buffer: u8, offset: usize) -> u8
     ensures { result ≡ fill_byte seed buffer offset }
 {
@@ -34,6 +36,7 @@ fn fill_byte(seed: u8, buffer: u8, offset: usize) -> u8
 }
 
 // The buffers' numbers: 0 PRG-ROM, 1 CHR, 2 PRG-RAM, 3 CIRAM, 4 ExRAM.
+#[tactic(auto, unfolding(crate::specs::Fill::filled))]
 pub fn fill(bytes: &mut [u8], seed: u8, buffer: u8)
     ensures { bytes.new ≡ filled seed buffer (length bytes.old) }
 {

@@ -3,6 +3,7 @@ use answers::{Answer, Refusal};
 use board::InterruptAnswer;
 use print::{print_first, print_number, print_text};
 use state::State;
+use std::io;
 
 // The letter of an answer, with 128 more where the interrupt is up; a letter that no line has where it cannot be told.
 fn first_byte(a: Answer, i: InterruptAnswer) -> u8 {
@@ -15,35 +16,35 @@ fn first_byte(a: Answer, i: InterruptAnswer) -> u8 {
 }
 
 // The line of a call; whether the call was accepted.
-pub fn call(number: u32, kind: u8, a: Answer, s: State) -> bool {
+pub fn call(rt: &impl Print, number: u32, kind: u8, a: Answer, s: State) -> io::Result<bool> {
     let mut out = [0u8; 32];
     if let Answer::Refused(why) = a {
         let n = text::lines::refused_line(&mut out, 0, number, kind, why);
-        print_first(&out, n);
-        return false;
+        print_first(rt, &out, n)?;
+        return Ok(false);
     }
     let first = first_byte(a, board::state_calls::interrupt_up(s));
     let n = text::lines::logged_line(&mut out, 0, number, kind, first, answers::value_of(a));
-    print_first(&out, n);
-    true
+    print_first(rt, &out, n)?;
+    Ok(true)
 }
 
 // The line of a record that cannot be read.
-pub fn unreadable(number: u32, why: Refusal) {
+pub fn unreadable(rt: &impl Print, number: u32, why: Refusal) -> io::Result<()> {
     let mut out = [0u8; 32];
     let n = text::lines::unreadable_line(&mut out, 0, number, why);
-    print_first(&out, n);
+    print_first(rt, &out, n)
 }
 
-pub fn end(count: u32) {
+pub fn end(rt: &impl Print, count: u32) -> io::Result<()> {
     let mut out = [0u8; 32];
     let n = text::lines::end_line(&mut out, 0, count);
-    print_first(&out, n);
+    print_first(rt, &out, n)
 }
 
 // The line of a refused load.
-pub fn load_refused(why: Refusal) {
-    print_text(b"load ");
-    print_number(answers::number_of(why) as u64);
-    print_text(b"\n");
+pub fn load_refused(rt: &impl Print, why: Refusal) -> io::Result<()> {
+    print_text(rt, b"load ")?;
+    print_number(rt, answers::number_of(why) as u64)?;
+    print_text(rt, b"\n")
 }

@@ -3,9 +3,10 @@
 // What a case file should not hold prints a line that no replay prints: `cut`, `large`, `load N`.
 #![tactic(auto)]
 
-ghost use Rattle.std.specs.Prelude.{◌≤◌, length};
+ghost use Rattle.std.specs.Prelude.{◌≤◌, length, IfOk};
 
 use head::Head;
+use std::io;
 use trace::too_long;
 
 mod counters;
@@ -17,13 +18,14 @@ mod play;
 
 // The case over buffers of its own lengths.
 fn play_over(
+    rt: &impl Print,
     head: Head,
     trace: &[u8],
     after: &[u8],
     prg: &mut [u8],
     chr: &mut [u8],
     ram: &mut [u8],
-) {
+) -> io::Result<()> {
     let mut ciram = [0u8; 2048];
     let mut exram = [0u8; 1024];
     let kind = head.kind;
@@ -36,90 +38,107 @@ fn play_over(
     let writable = head.writable;
     let mirroring = head.mirroring;
     play::play(
-        kind, trace, after, prg, chr, ram, &mut ciram, &mut exram, writable, mirroring,
-    );
+        rt, kind, trace, after, prg, chr, ram, &mut ciram, &mut exram, writable, mirroring,
+    )
 }
 
 // The case over the first bytes of buffers that are as long as any case needs.
 fn play_case(
+    rt: &impl Print,
     head: Head,
     trace: &[u8],
     after: &[u8],
     prg: &mut [u8],
     chr: &mut [u8],
     ram: &mut [u8],
-) {
+) -> io::Result<()> {
     let p = head.prg;
     let c = head.chr;
     let r = head.ram;
     if prg.len() < p {
-        print::print_text(b"large\n");
-        return;
+        return print::print_text(rt, b"large\n");
     }
     if chr.len() < c {
-        print::print_text(b"large\n");
-        return;
+        return print::print_text(rt, b"large\n");
     }
     if ram.len() < r {
-        print::print_text(b"large\n");
-        return;
+        return print::print_text(rt, b"large\n");
     }
     if too_long(trace.len()) {
-        print::print_text(b"? 11\n");
-        return;
+        return print::print_text(rt, b"? 11\n");
     }
     play_over(
+        rt,
         head,
         trace,
         after,
         &mut prg[..p],
         &mut chr[..c],
         &mut ram[..r],
-    );
+    )
 }
 
 // Plays the case at the start of `rest`; how many bytes it takes, 0 where it is cut.
-fn first_case(rest: &[u8], prg: &mut [u8], chr: &mut [u8], ram: &mut [u8]) -> usize
-    ensures { result ≤ length rest.now }
+fn first_case(
+    rt: &impl Print,
+    rest: &[u8],
+    prg: &mut [u8],
+    chr: &mut [u8],
+    ram: &mut [u8],
+) -> io::Result<usize>
+    ensures { IfOk result (λ n. n ≤ length rest.now) }
 {
     if rest.len() < head::LENGTH {
-        print::print_text(b"cut\n");
-        return 0;
+        print::print_text(rt, b"cut\n")?;
+        return Ok(0);
     }
     let h = head::head_of(rest);
     let end = head::LENGTH + h.trace;
     let last = head::last_of(rest, h.kind, end);
     if rest.len() < last {
-        print::print_text(b"cut\n");
-        return 0;
+        print::print_text(rt, b"cut\n")?;
+        return Ok(0);
     }
     let trace = &rest[head::LENGTH..end];
     let after = &rest[end..last];
-    play_case(h, trace, after, prg, chr, ram);
-    last
+    play_case(rt, h, trace, after, prg, chr, ram)?;
+    Ok(last)
 }
 
-fn play_all(cases: &[u8], prg: &mut [u8], chr: &mut [u8], ram: &mut [u8]) {
+fn play_all(
+    rt: &impl Print,
+    cases: &[u8],
+    prg: &mut [u8],
+    chr: &mut [u8],
+    ram: &mut [u8],
+) -> io::Result<()> {
     let mut at = 0;
     while at < cases.len() {
-        let taken = first_case(&cases[at..], prg, chr, ram);
+        let taken = first_case(rt, &cases[at..], prg, chr, ram)?;
         if taken == 0 {
             break;
         }
         at += taken;
     }
+    Ok(())
 }
 
 // The arrays as slices. Each is as long as its part of a cartridge can be.
-fn play_in(cases: &[u8], prg: &mut [u8; 1048576], chr: &mut [u8; 1048576], ram: &mut [u8; 65536]) {
-    play_all(cases, prg, chr, ram);
+fn play_in(
+    rt: &impl Print,
+    cases: &[u8],
+    prg: &mut [u8; 1048576],
+    chr: &mut [u8; 1048576],
+    ram: &mut [u8; 65536],
+) -> io::Result<()> {
+    play_all(rt, cases, prg, chr, ram)
 }
 
-fn main() {
-    let mut input = io::large_buffer();
+fn main(rt: HostRuntime) -> io::Result<()> {
+    let mut input = [0u8; 65536];
     let mut prg = [0u8; 1048576];
     let mut chr = [0u8; 1048576];
     let mut ram = [0u8; 65536];
-    let n = io::read_full(libc::STDIN_FILENO, &mut input);
-    play_in(&input[..n], &mut prg, &mut chr, &mut ram);
+    let n = print::read_input(&rt, &mut input)?;
+    play_in(&rt, &input[..n], &mut prg, &mut chr, &mut ram)
 }

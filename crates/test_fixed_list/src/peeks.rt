@@ -7,6 +7,7 @@ use answers::Answer;
 use memory::{CpuAddr, PpuAddr};
 use print::print_text;
 use state::State;
+use std::io;
 
 // 0 is the CPU's peek, 1 the PPU's, 2 the sprites'.
 fn peek(
@@ -28,6 +29,7 @@ fn peek(
 
 // The peek whose last byte stands at a place. Its line: `peek`, the address, which peek, and the answer and the interrupt as in the line of a record.
 fn peek_at(
+    rt: &impl Print,
     peeks: &[u8],
     at: usize,
     s: State,
@@ -36,17 +38,18 @@ fn peek_at(
     ram: &[u8],
     ciram: &[u8],
     exram: &[u8],
-)
+) -> io::Result<bool>
     requires { (3 ≤ at) × (at < length peeks.now) }
 {
     let which = peeks[at - 2];
     let addr = two(peeks[at - 1], peeks[at]) as u16;
     let answer = peek(which, addr, s, prg, chr, ram, ciram, exram);
-    print_text(b"peek ");
-    lines::call(addr as u32, which, answer, s);
+    print_text(rt, b"peek ")?;
+    lines::call(rt, addr as u32, which, answer, s)
 }
 
 pub fn each(
+    rt: &impl Print,
     peeks: &[u8],
     s: State,
     prg: &[u8],
@@ -54,10 +57,11 @@ pub fn each(
     ram: &[u8],
     ciram: &[u8],
     exram: &[u8],
-) {
+) -> io::Result<()> {
     let mut at = 3;
     while at < peeks.len() {
-        peek_at(peeks, at, s, prg, chr, ram, ciram, exram);
+        peek_at(rt, peeks, at, s, prg, chr, ram, ciram, exram)?;
         at += 3;
     }
+    Ok(())
 }

@@ -5,6 +5,7 @@ use answers::Answer;
 use board::loads::Settings;
 use registers::Mirroring;
 use state::State;
+use std::io;
 use trace::Found;
 
 // What is left after a record: whether the replay goes on, from which place, over which state.
@@ -17,6 +18,7 @@ struct Turn {
 
 // Plays the record at a place and prints its line, or the line of the end.
 fn played(
+    rt: &impl Print,
     trace: &[u8],
     at: usize,
     count: u32,
@@ -26,41 +28,42 @@ fn played(
     ram: &mut [u8],
     ciram: &mut [u8],
     exram: &mut [u8],
-) -> Turn {
+) -> io::Result<Turn> {
     let found = trace::records::record_at(trace, at);
     match found {
         Found::End => {
-            lines::end(count);
-            Turn {
+            lines::end(rt, count)?;
+            Ok(Turn {
                 going: false,
                 at,
                 state: s,
-            }
+            })
         }
         Found::Refused(why) => {
-            lines::unreadable(count, why);
-            Turn {
+            lines::unreadable(rt, count, why)?;
+            Ok(Turn {
                 going: false,
                 at,
                 state: s,
-            }
+            })
         }
         Found::Record(call, next) => {
             let outcome = calls::call_on(s, prg, chr, ram, ciram, exram, call);
             let answer = outcome.answer;
             let after = outcome.state;
-            let going = lines::call(count, trace::kind_of(call), answer, after);
-            Turn {
+            let going = lines::call(rt, count, trace::kind_of(call), answer, after)?;
+            Ok(Turn {
                 going,
                 at: next,
                 state: after,
-            }
+            })
         }
     }
 }
 
 // The state after the last record that was accepted. A trace of 8,192 bytes has at most as many records, and its end.
 fn records(
+    rt: &impl Print,
     trace: &[u8],
     loaded: State,
     prg: &[u8],
@@ -68,22 +71,23 @@ fn records(
     ram: &mut [u8],
     ciram: &mut [u8],
     exram: &mut [u8],
-) -> State {
+) -> io::Result<State> {
     let mut s = loaded;
     let mut at = 0;
     for count in 0..8193u32 {
-        let turn = played(trace, at, count, s, prg, chr, ram, ciram, exram);
+        let turn = played(rt, trace, at, count, s, prg, chr, ram, ciram, exram)?;
         if !turn.going {
             break;
         }
         s = turn.state;
         at = turn.at;
     }
-    s
+    Ok(s)
 }
 
 // What follows the trace in its case: counters to start from, or peeks over the state that the trace leaves.
 fn play_loaded(
+    rt: &impl Print,
     kind: u8,
     trace: &[u8],
     after: &[u8],
@@ -93,15 +97,17 @@ fn play_loaded(
     ram: &mut [u8],
     ciram: &mut [u8],
     exram: &mut [u8],
-) {
+) -> io::Result<()> {
     let s = counters::start(kind, after, loaded);
-    let t = records(trace, s, prg, chr, ram, ciram, exram);
+    let t = records(rt, trace, s, prg, chr, ram, ciram, exram)?;
     if kind == PEEKS {
-        peeks::each(after, t, prg, chr, ram, ciram, exram);
+        return peeks::each(rt, after, t, prg, chr, ram, ciram, exram);
     }
+    Ok(())
 }
 
 pub fn play(
+    rt: &impl Print,
     kind: u8,
     trace: &[u8],
     after: &[u8],
@@ -112,7 +118,7 @@ pub fn play(
     exram: &mut [u8],
     writable: bool,
     mirroring: Mirroring,
-) {
+) -> io::Result<()> {
     let settings = Settings {
         chr_writable: writable,
         mirroring,
@@ -120,10 +126,10 @@ pub fn play(
     let outcome = board::loads::load(prg, chr, ram, ciram, exram, settings);
     let answer = outcome.answer;
     if let Answer::Refused(why) = answer {
-        lines::load_refused(why);
-        return;
+        return lines::load_refused(rt, why);
     }
     play_loaded(
+        rt,
         kind,
         trace,
         after,
@@ -133,5 +139,5 @@ pub fn play(
         ram,
         ciram,
         exram,
-    );
+    )
 }

@@ -3,7 +3,9 @@
 // kind of record, 8,192 bytes and 8,193. oracle/README.md has the format of a case; all of these have 01's cartridge.
 #![tactic(auto)]
 
-ghost use Rattle.std.specs.Prelude.{◌≤◌, length};
+ghost use Rattle.std.specs.Prelude.{◌≤◌, length, IfOk};
+
+use std::io;
 
 // How many bytes stand before a case's trace; the last two are its length, low one first.
 const HEAD: usize = 11;
@@ -14,40 +16,41 @@ fn two(low: u8, high: u8) -> usize
     low as usize + high as usize * 256
 }
 
-fn print_trace(trace: &[u8]) {
+fn print_trace(rt: &impl Print, trace: &[u8]) -> io::Result<()> {
     let mut out = [0u8; 131072];
     let length = transcript::cartridge::transcribe(&mut out, trace);
-    print::print_first(&out, length);
+    print::print_first(rt, &out, length)
 }
 
 // Plays the case at the start of `rest`; how many bytes it takes, 0 where it is cut.
-fn first_case(rest: &[u8]) -> usize
-    ensures { result ≤ length rest.now }
+fn first_case(rt: &impl Print, rest: &[u8]) -> io::Result<usize>
+    ensures { IfOk result (λ n. n ≤ length rest.now) }
 {
     if rest.len() < HEAD {
-        return 0;
+        return Ok(0);
     }
     let end = HEAD + two(rest[9], rest[10]);
     if rest.len() < end {
-        return 0;
+        return Ok(0);
     }
-    print_trace(&rest[HEAD..end]);
-    end
+    print_trace(rt, &rest[HEAD..end])?;
+    Ok(end)
 }
 
-fn print_all(cases: &[u8]) {
+fn print_all(rt: &impl Print, cases: &[u8]) -> io::Result<()> {
     let mut at = 0;
     while at < cases.len() {
-        let taken = first_case(&cases[at..]);
+        let taken = first_case(rt, &cases[at..])?;
         if taken == 0 {
             break;
         }
         at += taken;
     }
+    Ok(())
 }
 
-fn main() {
-    let mut input = io::large_buffer();
-    let n = io::read_full(libc::STDIN_FILENO, &mut input);
-    print_all(&input[..n]);
+fn main(rt: HostRuntime) -> io::Result<()> {
+    let mut input = [0u8; 65536];
+    let n = print::read_input(&rt, &mut input)?;
+    print_all(&rt, &input[..n])
 }
