@@ -3,7 +3,7 @@ use Prim.Native.Nat.{ℕ}
 use mathlib.Core.Bool.{Bool, true, false}
 use mathlib.Core.List.{List, []}
 use mathlib.Core.Path.{◌≡◌, refl, sym, ◌∙◌, ap, subst}
-use denote.Ref.{Bor}
+use Rattle.std.specs.Borrow.{Bor, MutBor}
 use Rattle.memory.specs.declared.Page.{Page}
 use Rattle.memory.specs.declared.Src.{Src}
 use Rattle.memory.specs.declared.Src.TheVariants.{Blank, PrgRom, PrgRam, Chr, CiRam, ExRam}
@@ -27,7 +27,7 @@ use Rattle.views.specs.Views.{cpu_view, ppu_view}
 use Rattle.trace.specs.declared.Call.{Call}
 use Rattle.trace.specs.declared.Call.TheVariants.{Clock, CpuRead, CpuWrite, PpuRegister, PpuFetch, Reset, PpuWrite}
 use Rattle.calls.specs.Called.{called}
-use Rattle.calls.specs.Lent.{MemoryThen}
+use Rattle.calls.specs.Lent.{BufferThen, MemoryThen, FourThen}
 use Rattle.theorems_histories.specs.Boards.{Board, Made, says, leaves, lent_as_recorded}
 use Rattle.theorems_histories.specs.Boards.Made.{call, peek, ppu_peek_lem, sprite_peek_lem, mirroring_asked, interrupt_asked, cpu_page, ppu_page}
 use Rattle.theorems_histories.specs.Code.{Step, board, gives, looks, Allowed, Happens, meant, CodeIsTheBoard, EveryCallTakesAll}
@@ -110,18 +110,24 @@ as_left c s m =
     let x = called c s m in
     ap (λ (l : List ℕ). after_of x.out (mem_of l x.mem.chr x.mem.ram x.mem.ciram x.mem.exram)) (sym (rom c s m))
 
--- Bytes, lent; five buffers, and what comes behind them.
+-- Bytes, lent to be read or to be changed; five buffers, and what comes behind them.
 abbrev lends : List ℕ → Bor (List ℕ)
 lends l = record { ref_ptr = (0, 0); now = l }
 
+abbrev lends_to_change : List ℕ → MutBor (List ℕ)
+lends_to_change l = record { ref_ptr = (0, 0); ghost_name = 0; now = l }
+
 abbrev lends_all : {X : Type 0} → Mem → X → MemoryThen X
 lends_all m x = (lends m.prg, (lends m.chr, (lends m.ram, (lends m.ciram, (lends m.exram, x)))))
+
+abbrev lends_all_to_change : {X : Type 0} → Mem → X → BufferThen (FourThen X)
+lends_all_to_change m x = (lends m.prg, (lends_to_change m.chr, (lends_to_change m.ram, (lends_to_change m.ciram, (lends_to_change m.exram, x)))))
 
 pub each : (b : Board) (c : Made) → Happens (meant b c)
 unfolding says leaves
 each b (call c) =
     let x = called c b.state b.mem in
-    any (([], ([], ([], ([], ([], tt))))), (b.state, lends_all b.mem (c, tt)), x.out, (b.state, lends_all x.mem (c, tt)), as_left c b.state b.mem, by_after b c _ _ (as_left c b.state b.mem))
+    any (([], ([], ([], ([], ([], tt))))), (b.state, lends_all_to_change b.mem (c, tt)), x.out, (b.state, lends_all_to_change x.mem (c, tt)), as_left c b.state b.mem, by_after b c _ _ (as_left c b.state b.mem))
 each b (peek a) =
     peeks (([], ([], ([], ([], ([], tt))))), (b.state, lends_all b.mem (a, tt)), cpu_peek b.state b.mem a.0, (b.state, lends_all b.mem (a, tt)), refl, refl)
 each b (ppu_peek_lem a) =

@@ -1,32 +1,15 @@
 -- The code is the definitions' board. Demand 2: "answers, page tables and memory .. are proved equal to definitions"; demand 1: "Every call takes all
--- inputs". What is spoken of is each entry point's own contract, as the prover reads it off the code: `Learnt` is what it allows, for the lifetimes κ,
--- the arguments a, the result r and the parameters e as they are at the exit; `Asked` is what it asks of a caller.
+-- inputs". What is spoken of is each entry point's own contract (specs/EntryPoints.antt): `Learnt` is what it allows, for the lifetimes κ, the arguments a, the
+-- result r and the parameters e as they are at the exit; `Asked` is what it asks of a caller.
 -- Assumes nothing.
 use Rattle.std.specs.Prelude.{true, ◌≡◌}
 use Rattle.memory.specs.Bytes.{Mem}
 use Rattle.state.specs.declared.State.{State}
 use Rattle.board.specs.declared.Outcome.{Outcome}
 use Rattle.board.specs.Loads.{load_call}
-use Rattle.board.proofs.loads.load.Reads as board_load
-use Rattle.board.proofs.clocks.clock.Reads as board_clock
-use Rattle.board.proofs.cpu_side.cpu_read.Reads as board_cpu_read
-use Rattle.board.proofs.cpu_side.cpu_peek.Reads as board_cpu_peek
-use Rattle.board.proofs.cpu_side.cpu_write.Reads as board_cpu_write
-use Rattle.board.proofs.ppu_registers.ppu_register.Reads as board_ppu_register
-use Rattle.board.proofs.state_calls.reset.Reads as board_reset
-use Rattle.board.proofs.state_calls.mirroring.Reads as board_mirroring
-use Rattle.board.proofs.state_calls.interrupt_up.Reads as board_interrupt_up
-use Rattle.board_ppu.proofs.fetches.ppu_fetch.Reads as board_ppu_fetch
-use Rattle.board_ppu.proofs.peeks.ppu_peek.Reads as board_ppu_peek
-use Rattle.board_ppu.proofs.peeks.sprite_peek.Reads as board_sprite_peek
-use Rattle.board_ppu.proofs.stores.ppu_write.Reads as board_ppu_write
-use Rattle.views.proofs.cpu_view.Reads as views_cpu_view
-use Rattle.views.proofs.ppu_view.Reads as views_ppu_view
+use Rattle.theorems_histories.specs.EntryPoints.{board_load, board_clock, board_cpu_read, board_cpu_peek, board_cpu_write, board_ppu_register, board_reset, board_mirroring, board_interrupt_up, board_ppu_fetch, board_ppu_peek, board_sprite_peek, board_ppu_write, views_cpu_view, views_ppu_view, trace_record_at, calls_call_on, player_replay}
 use Rattle.trace.specs.declared.Call.TheVariants.{Clock, CpuRead, CpuWrite, PpuRegister, PpuFetch, Reset, PpuWrite}
-use Rattle.trace.proofs.records.record_at.Reads as trace_record_at
-use Rattle.calls.specs.Lent.{mem_lent, behind_memory, mem_left}
-use Rattle.calls.proofs.call_on.Reads as calls_call_on
-use Rattle.player.proofs.replay.Reads as player_replay
+use Rattle.calls.specs.Lent.{mem_lent, mem_to_change, behind_memory, mem_left}
 use Rattle.theorems_histories.specs.Boards.{Board, Made, Said, says, leaves, lent_as_recorded}
 use Rattle.theorems_histories.specs.Boards.Made.{call, peek, ppu_peek_lem, sprite_peek_lem, mirroring_asked, interrupt_asked, cpu_page, ppu_page}
 use Rattle.theorems_histories.specs.Boards.Said.{answers, mirrors, interrupts, shows}
@@ -54,14 +37,14 @@ Allowed {K} {A} {R} {E} allows seen x = (κ : K) × (a : A κ) × (r : R κ) × 
 
 -- A call of the code. Clock, reset and PPU register write are not lent the buffers: they stand for a call over any that have the recorded lengths.
 pub data Happens (t : Step) : Type 0 where
-  any : Allowed calls_call_on.Learnt (λ κ a r e. gives (board a.0 (mem_lent a.1)) (call (behind_memory a.1).0) r (mem_left a.1.0.now e.1.1)) t → Happens t
+  any : Allowed calls_call_on.Learnt (λ κ a r e. gives (board a.0 (mem_to_change a.1)) (call (behind_memory a.1).0) r (mem_left a.1.0.now e.1.1)) t → Happens t
   clocks : (m : Mem) → Allowed board_clock.Learnt (λ κ a r e. gives (board a.0 m) (call Clock) r m) t → lent_as_recorded t.before ≡ true → Happens t
   reads : Allowed board_cpu_read.Learnt (λ κ a r e. gives (board a.0 (mem_lent a.1)) (call (CpuRead (behind_memory a.1).0)) r (mem_lent a.1)) t → Happens t
-  writes : Allowed board_cpu_write.Learnt (λ κ a r e. gives (board a.0 (mem_lent a.1)) (call (CpuWrite (behind_memory a.1).0 (behind_memory a.1).1.0)) r (mem_left a.1.0.now e.1.1)) t → Happens t
+  writes : Allowed board_cpu_write.Learnt (λ κ a r e. gives (board a.0 (mem_to_change a.1)) (call (CpuWrite (behind_memory a.1).0 (behind_memory a.1).1.0)) r (mem_left a.1.0.now e.1.1)) t → Happens t
   registers : (m : Mem) → Allowed board_ppu_register.Learnt (λ κ a r e. gives (board a.0 m) (call (PpuRegister a.1.0 a.1.1.0)) r m) t → lent_as_recorded t.before ≡ true → Happens t
   fetches : Allowed board_ppu_fetch.Learnt (λ κ a r e. gives (board a.0 (mem_lent a.1)) (call (PpuFetch (behind_memory a.1).0)) r (mem_lent a.1)) t → Happens t
   resets : (m : Mem) → Allowed board_reset.Learnt (λ κ a r e. gives (board a.0 m) (call Reset) r m) t → lent_as_recorded t.before ≡ true → Happens t
-  stores : Allowed board_ppu_write.Learnt (λ κ a r e. gives (board a.0 (mem_lent a.1)) (call (PpuWrite (behind_memory a.1).0 (behind_memory a.1).1.0)) r (mem_left a.1.0.now e.1.1)) t → Happens t
+  stores : Allowed board_ppu_write.Learnt (λ κ a r e. gives (board a.0 (mem_to_change a.1)) (call (PpuWrite (behind_memory a.1).0 (behind_memory a.1).1.0)) r (mem_left a.1.0.now e.1.1)) t → Happens t
   peeks : Allowed board_cpu_peek.Learnt (λ κ a r e. looks (board a.0 (mem_lent a.1)) (peek (behind_memory a.1).0) (answers r)) t → Happens t
   ppu_peeks : Allowed board_ppu_peek.Learnt (λ κ a r e. looks (board a.0 (mem_lent a.1)) (ppu_peek_lem (behind_memory a.1).0) (answers r)) t → Happens t
   sprite_peeks : Allowed board_sprite_peek.Learnt (λ κ a r e. looks (board a.0 (mem_lent a.1)) (sprite_peek_lem (behind_memory a.1).0) (answers r)) t → Happens t

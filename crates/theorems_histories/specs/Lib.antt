@@ -1,6 +1,7 @@
 pub mod Boards
 pub mod Watching
 pub mod Done
+pub mod EntryPoints
 pub mod Code
 pub mod Shorthand
 pub mod Histories

@@ -5,9 +5,9 @@ use mathlib.Core.Bool.{Bool, true, false, not}
 use mathlib.Core.List.{List, [], ◌∷◌}
 use mathlib.Core.Path.{◌≡◌, refl, sym, ◌∙◌, ap, subst}
 use contract.Lifetimes.{Lfts}
-use denote.Ref.{Bor}
 use lib.Dec.{eqb}
 use lib.ListN.{length, replicate, length-replicate}
+use Rattle.std.specs.Borrow.{Bor, MutBor}
 use Rattle.memory.specs.Bytes.{Mem}
 use Rattle.memory.specs.Bits.{as_bit}
 use Rattle.registers.specs.declared.Mirroring.{Mirroring}
@@ -25,13 +25,14 @@ use Rattle.board_ppu.specs.Peeks.{ppu_write, ppu_peek, sprite_peek}
 use Rattle.views.specs.Views.{cpu_view, ppu_view}
 use Rattle.trace.specs.declared.Call.TheVariants.{Clock, CpuRead, CpuWrite, PpuRegister, PpuFetch, Reset, PpuWrite}
 use Rattle.calls.specs.Called.{over_lent}
+use Rattle.calls.specs.Lent.{MemoryThen}
 use Rattle.host_answers.specs.Answers.{answer_plain, answer_with_interrupt, answer_mirroring, answer_interrupt}
 use Rattle.host_state.specs.Words.{mirroring_numbered, number_of_mirroring, words_of}
 use Rattle.host.specs.Hosted.{left_memory}
 use Rattle.host_looks.specs.Pages.{copied}
 use Rattle.theorems_histories.specs.Boards.{Board, Made, says, leaves}
 use Rattle.theorems_histories.specs.Boards.Made.{call, peek, ppu_peek_lem, sprite_peek_lem, mirroring_asked, interrupt_asked, cpu_page, ppu_page}
-use Rattle.theorems_host.specs.Held.{Held, held, held_of, exchange, looking, WordsThen, Lent}
+use Rattle.theorems_host.specs.Held.{Held, held, held_of, exchange, looking, WordsThen, Lent, LentToChange, LentToLook}
 use Rattle.theorems_host.specs.Held.Hearing.{number, bytes}
 use Rattle.theorems_host.specs.Calls.{loading, Loads, Calls}
 use Rattle.theorems_host.specs.Served.{plainly, with_interrupt, hears}
@@ -41,19 +42,31 @@ use Rattle.theorems_host.proofs.Backs.{clock_back, reset_back, register_back, re
 use Rattle.theorems_host.proofs.Stands.{Sound, on_words_lem, on_memory_lem, look_on_lem, copy_on_lem}
 use Rattle.theorems_host.proofs.Steps.{over_lent_lem}
 
--- Something lent, for some lifetimes.
+-- Something lent to be read or to be changed, for some lifetimes.
 abbrev lend : {X : Type 0} → X → Bor X
 lend x = record { ref_ptr = (0, 0); now = x }
+
+abbrev lend_to_change : {X : Type 0} → X → MutBor X
+lend_to_change x = record { ref_ptr = (0, 0); ghost_name = 0; now = x }
 
 abbrev lifetimes : (n : ℕ) → Lfts n
 lifetimes zero = tt
 lifetimes (suc n) = ([], lifetimes n)
 
 abbrev lend_words : {X : Type 0} → List ℕ → X → WordsThen X
-lend_words w x = (lend w, x)
+lend_words w x = (lend_to_change w, x)
+
+abbrev lend_memory : {X : Type 0} → Mem → X → MemoryThen X
+lend_memory m x = (lend m.prg, (lend m.chr, (lend m.ram, (lend m.ciram, (lend m.exram, x)))))
 
 abbrev lend_all : {X : Type 0} → Held → X → Lent X
-lend_all h x = lend_words h.words (lend h.mem.prg, (lend h.mem.chr, (lend h.mem.ram, (lend h.mem.ciram, (lend h.mem.exram, x)))))
+lend_all h x = lend_words h.words (lend_memory h.mem x)
+
+abbrev lend_all_to_change : {X : Type 0} → Held → X → LentToChange X
+lend_all_to_change h x = lend_words h.words (lend h.mem.prg, (lend_to_change h.mem.chr, (lend_to_change h.mem.ram, (lend_to_change h.mem.ciram, (lend_to_change h.mem.exram, x)))))
+
+abbrev lend_all_to_look : {X : Type 0} → Held → X → LentToLook X
+lend_all_to_look h x = (lend h.words, lend_memory h.mem x)
 
 -- Room for a page.
 room : List ℕ
@@ -93,40 +106,40 @@ lends b u g (call (PpuFetch a)) =
     (lifetimes 6, lend_all (held_of b) (a.0, tt), _, lend_all (held_of (leaves b (call (PpuFetch a)))) (a.0, tt), sym (on_words_lem b.state (λ (s : State). ppu_fetch s b.mem a.0) u (fetch_back b.state b.mem a.0)), refl)
 lends b u g (call (CpuWrite a v)) = (
   lifetimes 6,
-  lend_all (held_of b) (a.0, (v, tt)),
+  lend_all_to_change (held_of b) (a.0, (v, tt)),
   _,
-  lend_all (held_of (leaves b (call (CpuWrite a v)))) (a.0, (v, tt)),
+  lend_all_to_change (held_of (leaves b (call (CpuWrite a v)))) (a.0, (v, tt)),
   ap (left_memory _ _) (write_rom b.state b.mem a.0 v) ∙ sym (on_memory_lem b.state b.mem (λ (s : State). cpu_write s b.mem a.0 v) u (write_back b.state b.mem a.0 v)),
   ap (λ (m : Mem). exchange (a.0 ∷ v ∷ []) (held_of b) (hears b (call (CpuWrite a v))) (held (words_of (leaves b (call (CpuWrite a v))).state) m)) (write_rom b.state b.mem a.0 v),
 )
 lends b u g (call (PpuWrite a v)) = (
   lifetimes 6,
-  lend_all (held_of b) (a.0, (v, tt)),
+  lend_all_to_change (held_of b) (a.0, (v, tt)),
   _,
-  lend_all (held_of (leaves b (call (PpuWrite a v)))) (a.0, (v, tt)),
+  lend_all_to_change (held_of (leaves b (call (PpuWrite a v)))) (a.0, (v, tt)),
   ap (left_memory _ _) (store_rom b.state b.mem a.0 v) ∙ sym (on_memory_lem b.state b.mem (λ (s : State). ppu_write s b.mem a.0 v) u (store_back b.state b.mem a.0 v)),
   ap (λ (m : Mem). exchange (a.0 ∷ v ∷ []) (held_of b) (hears b (call (PpuWrite a v))) (held (words_of (leaves b (call (PpuWrite a v))).state) m)) (store_rom b.state b.mem a.0 v),
 )
-lends b u g (peek a) = (lifetimes 6, lend_all (held_of b) (a.0, tt), _, lend_all (held_of b) (a.0, tt), sym (look_on_lem b.state answer_plain (λ (s : State). cpu_peek s b.mem a.0) u), refl)
-lends b u g (ppu_peek_lem a) = (lifetimes 6, lend_all (held_of b) (a.0, tt), _, lend_all (held_of b) (a.0, tt), sym (look_on_lem b.state answer_plain (λ (s : State). ppu_peek s b.mem a.0) u), refl)
-lends b u g (sprite_peek_lem a) = (lifetimes 6, lend_all (held_of b) (a.0, tt), _, lend_all (held_of b) (a.0, tt), sym (look_on_lem b.state answer_plain (λ (s : State). sprite_peek s b.mem a.0) u), refl)
-lends b u g mirroring_asked = (lifetimes 1, lend_words (words_of b.state) tt, _, lend_words (words_of b.state) tt, sym (look_on_lem b.state answer_mirroring mirroring_call u), refl)
-lends b u g interrupt_asked = (lifetimes 1, lend_words (words_of b.state) tt, _, lend_words (words_of b.state) tt, sym (look_on_lem b.state answer_interrupt interrupt_call u), refl)
+lends b u g (peek a) = (lifetimes 6, lend_all_to_look (held_of b) (a.0, tt), _, lend_all_to_look (held_of b) (a.0, tt), sym (look_on_lem b.state answer_plain (λ (s : State). cpu_peek s b.mem a.0) u), refl)
+lends b u g (ppu_peek_lem a) = (lifetimes 6, lend_all_to_look (held_of b) (a.0, tt), _, lend_all_to_look (held_of b) (a.0, tt), sym (look_on_lem b.state answer_plain (λ (s : State). ppu_peek s b.mem a.0) u), refl)
+lends b u g (sprite_peek_lem a) = (lifetimes 6, lend_all_to_look (held_of b) (a.0, tt), _, lend_all_to_look (held_of b) (a.0, tt), sym (look_on_lem b.state answer_plain (λ (s : State). sprite_peek s b.mem a.0) u), refl)
+lends b u g mirroring_asked = (lifetimes 1, (lend (words_of b.state), tt), _, (lend (words_of b.state), tt), sym (look_on_lem b.state answer_mirroring mirroring_call u), refl)
+lends b u g interrupt_asked = (lifetimes 1, (lend (words_of b.state), tt), _, (lend (words_of b.state), tt), sym (look_on_lem b.state answer_interrupt interrupt_call u), refl)
 lends b u g (cpu_page a) =
     let c = copied (cpu_view b.state b.mem a.0) room in (
       lifetimes 6,
-      lend_all (held_of b) (a.0, (lend room, tt)),
+      lend_all_to_look (held_of b) (a.0, (lend_to_change room, tt)),
       c.count,
-      lend_all (held_of b) (a.0, (lend c.bytes, tt)),
+      lend_all_to_look (held_of b) (a.0, (lend_to_change c.bytes, tt)),
       (sym (copy_on_lem b.state (λ (s : State). cpu_view s b.mem a.0) room u), room_for),
       ap (λ (l : List ℕ). looking (a.0 ∷ []) (held_of b) (bytes l)) (copied_whole (cpu_page_whole b.state b.mem a.0) room room_for),
     )
 lends b u g (ppu_page a) =
     let c = copied (ppu_view b.state b.mem a.0) room in (
       lifetimes 7,
-      lend_all (held_of b) (a.0, (lend room, tt)),
+      lend_all_to_look (held_of b) (a.0, (lend_to_change room, tt)),
       c.count,
-      lend_all (held_of b) (a.0, (lend c.bytes, tt)),
+      lend_all_to_look (held_of b) (a.0, (lend_to_change c.bytes, tt)),
       (sym (copy_on_lem b.state (λ (s : State). ppu_view s b.mem a.0) room u), room_for),
       ap (λ (l : List ℕ). looking (a.0 ∷ []) (held_of b) (bytes l)) (copied_whole (ppu_page_whole b.state b.mem a.0) room room_for),
     )

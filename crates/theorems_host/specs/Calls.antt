@@ -9,27 +9,10 @@ use Rattle.calls.specs.Lent.{mem_left}
 use Rattle.host_state.specs.Words.{mirroring_numbered}
 use Rattle.theorems_histories.specs.Boards.{Made}
 use Rattle.theorems_histories.specs.Boards.Made.{call, peek, ppu_peek_lem, sprite_peek_lem, mirroring_asked, interrupt_asked, cpu_page, ppu_page}
-use Rattle.host.proofs.clocks.mmc5_clock.Reads as clock
-use Rattle.host.proofs.writes.mmc5_cpu_write.Reads as cpu_write_lem
-use Rattle.host.proofs.fetches.mmc5_ppu_fetch.Reads as ppu_fetch_lem
-use Rattle.host.proofs.loads.mmc5_load.Reads as load
-use Rattle.host.proofs.ppu_writes.mmc5_ppu_write.Reads as ppu_write_lem
-use Rattle.host.proofs.reads.mmc5_cpu_read.Reads as cpu_read_lem
-use Rattle.host.proofs.ppu_registers.mmc5_ppu_register.Reads as ppu_register_lem
-use Rattle.host.proofs.resets.mmc5_reset.Reads as reset
-use Rattle.host_looks.proofs.pages.mmc5_cpu_entry.Reads as cpu_entry
-use Rattle.host_looks.proofs.pages.mmc5_cpu_page.Reads as cpu_paged
-use Rattle.host_looks.proofs.pages.mmc5_ppu_entry.Reads as ppu_entry
-use Rattle.host_looks.proofs.pages.mmc5_ppu_page.Reads as ppu_paged
-use Rattle.host_looks.proofs.peeks.mmc5_cpu_peek.Reads as cpu_peeked
-use Rattle.host_looks.proofs.peeks.mmc5_ppu_peek.Reads as ppu_peeked
-use Rattle.host_looks.proofs.peeks.mmc5_sprite_peek.Reads as sprite_peeked
-use Rattle.host_looks.proofs.questions.mmc5_interrupt.Reads as interrupt_heard
-use Rattle.host_looks.proofs.questions.mmc5_mirroring.Reads as mirroring_heard
-use Rattle.host_replay.proofs.mmc5_replay.Reads as replay
+use Rattle.theorems_settles.specs.OwnHosts.{host_clock as clock, host_cpu_write as cpu_write_lem, host_ppu_fetch as ppu_fetch_lem, host_load as load, host_ppu_write as ppu_write_lem, host_cpu_read as cpu_read_lem, host_ppu_register as ppu_register_lem, host_reset as reset, host_looks_cpu_entry as cpu_entry, host_looks_cpu_page as cpu_paged, host_looks_ppu_entry as ppu_entry, host_looks_ppu_page as ppu_paged, host_looks_cpu_peek as cpu_peeked, host_looks_ppu_peek as ppu_peeked, host_looks_sprite_peek as sprite_peeked, host_looks_interrupt as interrupt_heard, host_looks_mirroring as mirroring_heard, host_replay_replay as replay}
 use Rattle.theorems_settles.specs.Hosts.{words_left, behind_words}
 use Rattle.theorems_histories.specs.Code.{Allowed}
-use Rattle.theorems_host.specs.Held.{Held, held, Hearing, exchange, looking, lent_in, behind_lent}
+use Rattle.theorems_host.specs.Held.{Held, held, Hearing, exchange, looking, words_lent, lent_in, lent_to_change, lent_to_look, behind_lent}
 use Rattle.theorems_host.specs.Held.Hearing.{number, bytes}
 
 -- A load as a host sees it: the buffers, whether CHR is writable, the header's mirroring, the number that it hears, and the words that it holds then.
@@ -60,30 +43,30 @@ Calls (call (CpuRead p)) h n h' =
 Calls (call (PpuFetch p)) h n h' =
     Allowed ppu_fetch_lem.Learnt (λ κ a r e. exchange ((behind_lent a).0 ∷ []) (lent_in a) (number r) (held (words_left e) (lent_in a).mem)) (exchange (p.0 ∷ []) h n h')
 Calls (call (CpuWrite p v)) h n h' =
-    Allowed cpu_write_lem.Learnt (λ κ a r e. exchange ((behind_lent a).0 ∷ (behind_lent a).1.0 ∷ []) (lent_in a) (number r) (held (words_left e) (mem_left (behind_words a).0.now (behind_words e).1)))
+    Allowed cpu_write_lem.Learnt (λ κ a r e. exchange ((behind_lent a).0 ∷ (behind_lent a).1.0 ∷ []) (lent_to_change a) (number r) (held (words_left e) (mem_left (behind_words a).0.now (behind_words e).1)))
     (exchange (p.0 ∷ v ∷ []) h n h')
 Calls (call (PpuWrite p v)) h n h' =
-    Allowed ppu_write_lem.Learnt (λ κ a r e. exchange ((behind_lent a).0 ∷ (behind_lent a).1.0 ∷ []) (lent_in a) (number r) (held (words_left e) (mem_left (behind_words a).0.now (behind_words e).1)))
+    Allowed ppu_write_lem.Learnt (λ κ a r e. exchange ((behind_lent a).0 ∷ (behind_lent a).1.0 ∷ []) (lent_to_change a) (number r) (held (words_left e) (mem_left (behind_words a).0.now (behind_words e).1)))
     (exchange (p.0 ∷ v ∷ []) h n h')
-Calls (peek p) h n h' = Allowed cpu_peeked.Learnt (λ κ a r e. looking ((behind_lent a).0 ∷ []) (lent_in a) (number r)) (exchange (p.0 ∷ []) h n h')
-Calls (ppu_peek_lem p) h n h' = Allowed ppu_peeked.Learnt (λ κ a r e. looking ((behind_lent a).0 ∷ []) (lent_in a) (number r)) (exchange (p.0 ∷ []) h n h')
-Calls (sprite_peek_lem p) h n h' = Allowed sprite_peeked.Learnt (λ κ a r e. looking ((behind_lent a).0 ∷ []) (lent_in a) (number r)) (exchange (p.0 ∷ []) h n h')
-Calls mirroring_asked h n h' = Allowed mirroring_heard.Learnt (λ κ a r e. looking [] (held (words_left a) h.mem) (number r)) (exchange [] h n h')
-Calls interrupt_asked h n h' = Allowed interrupt_heard.Learnt (λ κ a r e. looking [] (held (words_left a) h.mem) (number r)) (exchange [] h n h')
+Calls (peek p) h n h' = Allowed cpu_peeked.Learnt (λ κ a r e. looking ((behind_lent a).0 ∷ []) (lent_to_look a) (number r)) (exchange (p.0 ∷ []) h n h')
+Calls (ppu_peek_lem p) h n h' = Allowed ppu_peeked.Learnt (λ κ a r e. looking ((behind_lent a).0 ∷ []) (lent_to_look a) (number r)) (exchange (p.0 ∷ []) h n h')
+Calls (sprite_peek_lem p) h n h' = Allowed sprite_peeked.Learnt (λ κ a r e. looking ((behind_lent a).0 ∷ []) (lent_to_look a) (number r)) (exchange (p.0 ∷ []) h n h')
+Calls mirroring_asked h n h' = Allowed mirroring_heard.Learnt (λ κ a r e. looking [] (held (words_lent a) h.mem) (number r)) (exchange [] h n h')
+Calls interrupt_asked h n h' = Allowed interrupt_heard.Learnt (λ κ a r e. looking [] (held (words_lent a) h.mem) (number r)) (exchange [] h n h')
 -- where it is lent 1,024 bytes to copy to; the number says how many were copied
 Calls (cpu_page p) h n h' =
-    Allowed (λ κ a r e. cpu_paged.Learnt κ a r e × (length (behind_lent a).1.0.now ≡ 1024)) (λ κ a r e. looking ((behind_lent a).0 ∷ []) (lent_in a) (bytes (take r (behind_lent e).1.0.now)))
+    Allowed (λ κ a r e. cpu_paged.Learnt κ a r e × (length (behind_lent a).1.0.now ≡ 1024)) (λ κ a r e. looking ((behind_lent a).0 ∷ []) (lent_to_look a) (bytes (take r (behind_lent e).1.0.now)))
     (exchange (p.0 ∷ []) h n h')
 Calls (ppu_page p) h n h' =
-    Allowed (λ κ a r e. ppu_paged.Learnt κ a r e × (length (behind_lent a).1.0.now ≡ 1024)) (λ κ a r e. looking ((behind_lent a).0 ∷ []) (lent_in a) (bytes (take r (behind_lent e).1.0.now)))
+    Allowed (λ κ a r e. ppu_paged.Learnt κ a r e × (length (behind_lent a).1.0.now ≡ 1024)) (λ κ a r e. looking ((behind_lent a).0 ∷ []) (lent_to_look a) (bytes (take r (behind_lent e).1.0.now)))
     (exchange (p.0 ∷ []) h n h')
 
 -- What `mmc5_cpu_entry` and `mmc5_ppu_entry` tell of the page tables, by their contracts: at an address, a number.
 unfoldable pub TellsCpuEntry : Held → ℕ → ℕ → Type 0
-TellsCpuEntry h p n = Allowed cpu_entry.Learnt (λ κ a r e. looking ((behind_words a).0 ∷ []) (held (words_left a) h.mem) (number r)) (looking (p ∷ []) h (number n))
+TellsCpuEntry h p n = Allowed cpu_entry.Learnt (λ κ a r e. looking ((behind_words a).0 ∷ []) (held (words_lent a) h.mem) (number r)) (looking (p ∷ []) h (number n))
 
 unfoldable pub TellsPpuEntry : Held → ℕ → ℕ → Type 0
-TellsPpuEntry h p n = Allowed ppu_entry.Learnt (λ κ a r e. looking ((behind_words a).0 ∷ []) (held (words_left a) h.mem) (number r)) (looking (p ∷ []) h (number n))
+TellsPpuEntry h p n = Allowed ppu_entry.Learnt (λ κ a r e. looking ((behind_words a).0 ∷ []) (held (words_lent a) h.mem) (number r)) (looking (p ∷ []) h (number n))
 
 -- A replay as a host sees it: the trace and the log that it lends beside what it holds, the number that it hears, what it holds then, and the log.
 pub record Replaying : Type 0 where
@@ -101,4 +84,4 @@ replaying t l h n h' l' = record { trace = t; log = l; before = h; heard = n; af
 unfoldable pub Runs : Replaying → Type 0
 Runs y =
     Allowed replay.Learnt (λ κ a r e.
-    replaying (behind_lent a).0.now (behind_lent a).1.0.now (lent_in a) r (held (words_left e) (mem_left (behind_words a).0.now (behind_words e).1)) (behind_lent e).1.0.now) y
+    replaying (behind_lent a).0.now (behind_lent a).1.0.now (lent_to_change a) r (held (words_left e) (mem_left (behind_words a).0.now (behind_words e).1)) (behind_lent e).1.0.now) y

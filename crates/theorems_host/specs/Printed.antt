@@ -18,7 +18,7 @@ use Rattle.theorems_scanlines.specs.Calls.{history_of}
 use Rattle.logs.specs.Logs.{log_letter}
 use Rattle.player.specs.Replay.{found}
 use Rattle.transcript.specs.Cartridge.{transcript}
-use Rattle.transcript.proofs.cartridge.transcribe.Reads as transcribe
+use Rattle.theorems_settles.specs.OwnEntries.{transcript_transcribe as transcribe}
 use Rattle.theorems_histories.specs.Boards.{Board, Made, says, leaves, number}
 use Rattle.theorems_histories.specs.Boards.Made.{call}
 use Rattle.theorems_histories.specs.Histories.{Load, first, Reached}

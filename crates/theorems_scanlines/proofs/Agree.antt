@@ -2,23 +2,22 @@
 -- `match_count` and `scanline` keep their old values over a break, so what is said of them is guarded.
 -- Assumes nothing.
 use Prim.Native.Nat.{ℕ, ◌+◌, ◌%◌, ◌≤◌, min}
-use mathlib.Core.Path.{◌≡◌, refl, sym, ◌∙◌}
-use mathlib.Core.Bool.{Bool, true, false, not, ◌&&◌, ◌||◌}
+use mathlib.Core.Path.{◌≡◌, refl, sym, ◌∙◌, subst}
+use mathlib.Core.Bool.{true, false, not}
 use mathlib.Core.List.{List, [], ◌∷◌}
-use mathlib.Core.Option.{Option, none, some, get_or}
+use mathlib.Core.Option.{get_or}
 use native.Mathlib.Omega.{arith}
 use borrow.Author.Tests.{leb-true, leb-false, eqb-true, eqb-false, le-leb, eq-eqb, ne_eqb}
 use lib.Dec.{leb, eqb}
-use Rattle.memory.specs.Tests.{pick}
 use Rattle.memory.proofs.Tests.{split}
 use Rattle.scanline.specs.declared.Detector.{Detector}
 use Rattle.scanline.specs.Steps.{again, matches_after, is_line}
-use Rattle.theorems_scanlines.specs.Events.{is_clock, fetches, writes, address, value, counts}
+use Rattle.theorems_scanlines.specs.Events.{is_clock, fetches, writes, address, counts}
 use Rattle.theorems_scanlines.specs.Calls.{Event}
 use Rattle.theorems_scanlines.specs.Calls.Event.{clock, fetch, cpu_read, cpu_write, ppu_register, other}
 use Rattle.theorems_scanlines.specs.Told.{idle, row, breaks, recent, alike, line_at, lines, is_in_frame, last_write, had_bit7}
 use Rattle.theorems_scanlines.specs.Calls.{History}
-use Rattle.theorems_scanlines.specs.Run.{step, run}
+use Rattle.theorems_scanlines.specs.Run.{run}
 use Rattle.theorems_scanlines.proofs.Fields.{resets, strikes, stepped, by_fields}
 
 -- two tests on numbers that come to the same
@@ -46,7 +45,8 @@ run_length [] d a l h = rw (le-leb _ _ h, l)
 run_length (x ∷ xs) d a l h =
     rw (le-leb _ _ h, l.0, l.1)
     (split (eqb a x)
-    (λ t. let q : a ≡ x = eqb-true a x t in let m : d.match_count ≡ min (alike x xs) 255 = l.2 (omega arith) in rw (t, q) (omega arith))
+    (λ t. let q : a ≡ x = eqb-true a x t in
+    let m : d.match_count ≡ min (alike a xs) 255 = subst (λ y. d.match_count ≡ min (alike y xs) 255) (sym q) (l.2 (omega arith)) in rw t (omega arith))
     (λ t. rw t))
 
 keeps : (xs : List ℕ) (d d' : Detector) → d'.prev_some ≡ d.prev_some → d'.prev_addr.0 ≡ d.prev_addr.0 → d'.match_count ≡ d.match_count → Linked xs d → Linked xs d'

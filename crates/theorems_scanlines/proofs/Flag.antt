@@ -1,15 +1,14 @@
 -- The flag and the interrupt: after any history the detector's are those that the history tells, as sentences and as tests.
 -- Assumes nothing.
-use Prim.Native.Nat.{ℕ, ◌+◌, ◌≤◌}
+use Prim.Native.Nat.{ℕ, ◌≤◌}
 use mathlib.Core.Path.{◌≡◌, refl, sym, ◌∙◌, ap}
 use mathlib.Core.Logic.{◌↔◌}
 use mathlib.Core.Bool.{Bool, true, false, not, ◌&&◌, ◌||◌, false≢true}
-use mathlib.Core.List.{List, [], ◌∷◌, ◌++◌}
+use mathlib.Core.List.{[], ◌∷◌, ◌++◌}
 use mathlib.Core.Option.{Option, none, some, get_or}
 use native.Mathlib.Omega.{arith}
 use borrow.Author.Tests.{leb-true, eqb-true, le-leb, eq-eqb, ne_eqb}
 use lib.Dec.{leb, eqb}
-use Rattle.memory.specs.Tests.{pick}
 use Rattle.memory.proofs.Tests.{split, and_left, and_right}
 use Rattle.scanline.specs.declared.Detector.{Detector}
 use Rattle.scanline.specs.Steps.{is_line, line_number, meets, interrupt_up}
@@ -19,7 +18,7 @@ use Rattle.theorems_scanlines.specs.Calls.{Event}
 use Rattle.theorems_scanlines.specs.Calls.Event.{clock, fetch, cpu_read, cpu_write, ppu_register, other}
 use Rattle.theorems_scanlines.specs.Told.{line_at, lines, is_in_frame, last_write, none_of, Hit, Flagged, had_bit7, Up, is_value, hits, flag_told, up}
 use Rattle.theorems_scanlines.specs.Calls.{History}
-use Rattle.theorems_scanlines.specs.Run.{step, run}
+use Rattle.theorems_scanlines.specs.Run.{run}
 use Rattle.theorems_scanlines.proofs.Fields.{strikes, strikes_target, stepped, by_fields}
 use Rattle.theorems_scanlines.proofs.Agree.{Agrees, agrees, strikes_line}
 

@@ -1,11 +1,8 @@
 -- Accepted calls keep the ranges: by cases on the call, each by crate `scanline`'s law; of the tile count by the law of its fold.
 -- Assumes nothing.
-use Prim.Native.Nat.{ℕ, ◌/◌, ◌%◌}
 use mathlib.Core.Path.{◌≡◌}
 use mathlib.Core.Bool.{true, false, ◌&&◌, ◌||◌}
-use mathlib.Core.List.{[], ◌∷◌}
 use lib.Dec.{eqb}
-use Rattle.memory.specs.Tests.{pick}
 use Rattle.memory.proofs.Tests.{split}
 use Rattle.scanline.specs.Steps.{dark}
 use Rattle.scanline.specs.declared.Detector.{Detector}

@@ -1,13 +1,12 @@
 -- `line_at` is the line of 01's sentence.
 -- Assumes nothing.
-use Prim.Native.Nat.{ℕ, ◌+◌, ◌-◌}
-use mathlib.Core.Path.{◌≡◌, refl, sym, ◌∙◌, ap}
-use mathlib.Core.Bool.{Bool, true, false, not, ◌&&◌}
+use Prim.Native.Nat.{ℕ, ◌+◌}
+use mathlib.Core.Path.{◌≡◌, refl, ◌∙◌, ap}
+use mathlib.Core.Bool.{true, false, not}
 use mathlib.Core.List.{List, [], ◌∷◌}
 use native.Mathlib.Omega.{arith}
 use borrow.Author.Tests.{eqb-true, eqb-false, eq-eqb, ne_eqb, not-true}
 use lib.Dec.{eqb}
-use Rattle.memory.specs.Tests.{pick}
 use Rattle.memory.proofs.Tests.{split, and_left, and_right}
 use Rattle.theorems_scanlines.specs.Events.{is_clock, fetches, reads, darkens, address, counts, vectors}
 use Rattle.theorems_scanlines.specs.Calls.{Event}

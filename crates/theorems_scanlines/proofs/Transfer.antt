@@ -1,14 +1,13 @@
 -- Demand 3 for any machine that keeps a detector: it asks that load leaves the detector as loaded, and one law a call, that the call moves
 -- the detector by its event.
 -- Assumes nothing.
-use Prim.Native.Nat.{ℕ, ◌+◌, ◌-◌, ◌<◌}
-use mathlib.Core.Path.{◌≡◌, refl, sym, ◌∙◌, ap}
-use mathlib.Core.Logic.{◌↔◌}
-use mathlib.Core.Bool.{Bool, true, false}
+use Prim.Native.Nat.{◌+◌}
+use mathlib.Core.Path.{◌≡◌, refl, ◌∙◌, ap}
+use mathlib.Core.Bool.{true}
 use mathlib.Core.List.{List, [], ◌∷◌, ◌++◌}
 use borrow.Author.Tests.{leb-true}
 use Rattle.scanline.specs.declared.Detector.{Detector}
-use Rattle.scanline.specs.Steps.{detector_at_load, interrupt_up}
+use Rattle.scanline.specs.Steps.{detector_at_load}
 use Rattle.theorems_scanlines.specs.Calls.{Event}
 use Rattle.theorems_scanlines.specs.Told.{lines, is_in_frame}
 use Rattle.theorems_scanlines.specs.Calls.{History}
@@ -17,7 +16,7 @@ use Rattle.theorems_scanlines.specs.Run.{step, run}
 use Rattle.theorems_scanlines.specs.Promise.{Demand3, AnyMachine, DetectorDemand3}
 use Rattle.theorems_scanlines.specs.Calls.{history_of, Played}
 use Rattle.theorems_scanlines.specs.Calls.Played.{at_load, taken}
-use Rattle.theorems_scanlines.proofs.Agree.{Agrees, agrees}
+use Rattle.theorems_scanlines.proofs.Agree.{agrees}
 use Rattle.theorems_scanlines.proofs.Flag.{flag_is, up_is, flag_iff, up_iff}
 use Rattle.theorems_scanlines.proofs.Stored.{stored}
 use Rattle.theorems_scanlines.proofs.Wait.{no_sooner, served}

@@ -1,17 +1,17 @@
 -- The wait for a line, told by the history alone: no flag before the (n - l)th line, and the interrupt up at it.
 -- Assumes nothing.
-use Prim.Native.Nat.{ℕ, ◌+◌, ◌-◌, ◌≤◌, ◌<◌}
+use Prim.Native.Nat.{ℕ, ◌+◌, ◌-◌, ◌<◌}
 use mathlib.Core.Path.{◌≡◌, refl, sym, ◌∙◌, ap}
-use mathlib.Core.Bool.{Bool, true, false, not, ◌&&◌, ◌||◌, false≢true}
-use mathlib.Core.List.{List, [], ◌∷◌, ◌++◌}
-use mathlib.Core.Option.{Option, some}
+use mathlib.Core.Bool.{Bool, true, false, not, ◌||◌, false≢true}
+use mathlib.Core.List.{[], ◌∷◌, ◌++◌}
+use mathlib.Core.Option.{some}
 use native.Mathlib.Omega.{arith}
 use Rattle.memory.specs.Tests.{pick}
 use Rattle.memory.proofs.Tests.{split, and_left, and_right}
 use Rattle.theorems_scanlines.specs.Events.{fetches, writes, clears}
 use Rattle.theorems_scanlines.specs.Calls.{Event}
 use Rattle.theorems_scanlines.specs.Calls.Event.{clock, fetch, cpu_read, cpu_write, ppu_register, other}
-use Rattle.theorems_scanlines.specs.Told.{breaks, line_at, lines, last_write, none_of, Hit, Flagged, had_bit7, Waiting, new_lines, calm, hits, flag_told, up}
+use Rattle.theorems_scanlines.specs.Told.{breaks, line_at, lines, last_write, none_of, Waiting, new_lines, calm, hits, flag_told, up}
 use Rattle.theorems_scanlines.specs.Calls.{History}
 use Rattle.theorems_scanlines.proofs.Flag.{hits_hit, flag_flagged, flag_since}
 

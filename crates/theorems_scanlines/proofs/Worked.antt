@@ -1,9 +1,8 @@
 -- The worked histories hold, by computation; the wait's hypotheses can be met by calls that are taken.
 -- Assumes nothing.
-use Prim.Native.Nat.{ℕ}
-use mathlib.Core.Path.{◌≡◌, refl, sym, ◌∙◌}
-use mathlib.Core.Bool.{Bool, true, false, not, ◌&&◌, false≢true}
-use mathlib.Core.List.{List, [], ◌∷◌, ◌++◌}
+use mathlib.Core.Path.{◌≡◌, refl}
+use mathlib.Core.Bool.{true, not, false≢true}
+use mathlib.Core.List.{[], ◌∷◌, ◌++◌}
 use native.Mathlib.Omega.{arith}
 use borrow.Author.Tests.{not-true}
 use Rattle.memory.specs.Tests.{all}
@@ -12,7 +11,6 @@ use Rattle.scanline.specs.Ranges.{line_refused, counter_refused}
 use Rattle.scanline.specs.Clock.{tick}
 use Rattle.scanline.specs.Steps.{again, matches_after, is_line, meets, seen_at}
 use Rattle.theorems_scanlines.specs.Events.{is_clock, fetches, reads, writes, darkens, address, value, counts, vectors, clears}
-use Rattle.theorems_scanlines.specs.Calls.{Event}
 use Rattle.theorems_scanlines.specs.Told.{idle, row, breaks, recent, alike, line_at, lines, is_in_frame, last_write, had_bit7, new_lines, calm, is_value, hits, flag_told, up, TestsAreSentences, told_status}
 use Rattle.theorems_scanlines.specs.Calls.{History}
 use Rattle.theorems_scanlines.specs.Machine.{event_refused, tiles_by, watched, all_taken}

@@ -1,7 +1,7 @@
 -- Worked histories, one list under one statement: what $5204 then reads and whether the interrupt is up, both by the detector of crate
 -- `scanline` and by the history alone. From 01, "Examples at the edges", and from runs of the Rust.
 -- Assumes nothing.
-use Rattle.std.specs.Prelude.{ℕ, ◌+◌, Bool, true, false, not, List, [], ◌∷◌, ◌++◌, ◌≡◌, eqb, T}
+use Rattle.std.specs.Prelude.{ℕ, Bool, true, false, not, List, [], ◌∷◌, ◌++◌, ◌≡◌, eqb, T}
 use Rattle.memory.specs.Tests.{conj, pick, all}
 use Rattle.scanline.specs.Steps.{status_of, interrupt_up}
 use Rattle.theorems_scanlines.specs.Calls.{Event}

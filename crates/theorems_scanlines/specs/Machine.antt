@@ -6,7 +6,7 @@ use Rattle.memory.specs.Tests.{pick}
 use Rattle.scanline.specs.declared.Detector.{Detector}
 use Rattle.scanline.specs.Fetches.{counted_at, name_at}
 use Rattle.scanline.specs.Tiles.{left_after}
-use Rattle.scanline.specs.Steps.{detector_at_load, matches_after, meets, seen_at, clocked, dark, darkened, vector_read, status_read, targeted, enabled_by}
+use Rattle.scanline.specs.Steps.{detector_at_load, matches_after, meets}
 use Rattle.scanline.specs.Ranges.{counter_refused}
 use Rattle.theorems_scanlines.specs.Calls.{Event}
 use Rattle.theorems_scanlines.specs.Calls.Event.{clock, fetch, cpu_read, cpu_write, ppu_register, other}

@@ -3,7 +3,7 @@
 -- `view` where the detector lies, and `event` what it can tell of a call. In this crate the machine is the detector with the full tile count;
 -- in crate `theorems_histories` it is the whole board.
 -- Assumes nothing.
-use Rattle.std.specs.Prelude.{ℕ, ◌+◌, ◌-◌, ◌<◌, ◌≡◌, ◌↔◌, true, false, List, [], ◌∷◌, ◌++◌}
+use Rattle.std.specs.Prelude.{ℕ, ◌+◌, ◌-◌, ◌<◌, ◌≡◌, ◌↔◌, true, false, List, ◌∷◌, ◌++◌}
 use Rattle.scanline.specs.declared.Detector.{Detector}
 use Rattle.scanline.specs.Steps.{detector_at_load, interrupt_up}
 use Rattle.scanline.specs.Tiles.{fold, tiles_ok}

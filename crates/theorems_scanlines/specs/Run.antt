@@ -1,6 +1,6 @@
 -- The detector over a history: what each call makes of it, by the definitions of crate `scanline`.
 -- Assumes nothing.
-use Rattle.std.specs.Prelude.{ℕ, Bool, ◌&&◌, ◌||◌, List, [], ◌∷◌, eqb}
+use Rattle.std.specs.Prelude.{◌&&◌, ◌||◌, [], ◌∷◌, eqb}
 use Rattle.memory.specs.Tests.{pick}
 use Rattle.scanline.specs.declared.Detector.{Detector}
 use Rattle.scanline.specs.Fetches.{counted_at}

@@ -1,11 +1,9 @@
 -- The contracts that are more than one equation, or an equation for every PRG-ROM, each by the one law.
 use mathlib.Core.List.{[]}
-use Rattle.memory.proofs.bytes.store.Reads as memory_store
-use Rattle.memory.proofs.tables.prg_place.Reads as memory_prg_place
-use Rattle.steps.proofs.cpu_side.store.Reads as steps_store
-use Rattle.steps.proofs.ppu_side.count_fetch.Reads as steps_count_fetch
 use Rattle.calls.specs.Lent.{mem_left}
 use Rattle.theorems_settles.specs.Settled.{Result, Settles, beside}
+use Rattle.theorems_settles.specs.OwnLeaves.{memory_store, memory_prg_place}
+use Rattle.theorems_settles.specs.OwnEntries.{steps_store, steps_count_fetch}
 use Rattle.theorems_settles.specs.ByHand.{clock_lent, new, advanced}
 use Rattle.theorems_settles.proofs.Law.{settled, both}
 

@@ -5,54 +5,7 @@ use Rattle.std.specs.Prelude.{[]}
 use Rattle.board.specs.Outcomes.{after_of}
 use Rattle.player.specs.Replay.{left_of}
 use Rattle.text.specs.Sheet.{sheet}
-use Rattle.board.proofs.clocks.clock.Reads as board_clock
-use Rattle.board.proofs.cpu_side.cpu_read.Reads as board_cpu_read
-use Rattle.board.proofs.cpu_side.cpu_peek.Reads as board_cpu_peek
-use Rattle.board.proofs.cpu_side.cpu_write.Reads as board_cpu_write
-use Rattle.board.proofs.refuse.Reads as board_refuse
-use Rattle.board.proofs.loads.load.Reads as board_load
-use Rattle.board.proofs.ppu_registers.ppu_register.Reads as board_ppu_register
-use Rattle.board.proofs.state_calls.reset.Reads as board_reset
-use Rattle.board.proofs.state_calls.mirroring.Reads as board_mirroring
-use Rattle.board.proofs.state_calls.interrupt_up.Reads as board_interrupt_up
-use Rattle.board_ppu.proofs.fetches.ppu_fetch.Reads as board_ppu_ppu_fetch
-use Rattle.board_ppu.proofs.pages.chr_word_at.Reads as board_ppu_chr_word_at
-use Rattle.board_ppu.proofs.peeks.ppu_peek.Reads as board_ppu_ppu_peek
-use Rattle.board_ppu.proofs.peeks.sprite_peek.Reads as board_ppu_sprite_peek
-use Rattle.board_ppu.proofs.stores.ppu_write.Reads as board_ppu_ppu_write
-use Rattle.views.proofs.cpu_view.Reads as views_cpu_view
-use Rattle.views.proofs.ppu_view.Reads as views_ppu_view
-use Rattle.trace.proofs.kind_of.Reads as trace_kind_of
-use Rattle.trace.proofs.too_long.Reads as trace_too_long
-use Rattle.trace.proofs.numbers.address_at.Reads as trace_address_at
-use Rattle.trace.proofs.numbers.value_at.Reads as trace_value_at
-use Rattle.trace.proofs.records.record_at.Reads as trace_record_at
-use Rattle.trace.proofs.reader.first_record.Reads as trace_first_record
-use Rattle.calls.proofs.call_on.Reads as calls_call_on
-use Rattle.text.proofs.lines.logged_line.Reads as text_logged_line
-use Rattle.text.proofs.lines.refused_line.Reads as text_refused_line
-use Rattle.text.proofs.lines.unreadable_line.Reads as text_unreadable_line
-use Rattle.text.proofs.lines.too_long_line.Reads as text_too_long_line
-use Rattle.text.proofs.lines.end_line.Reads as text_end_line
-use Rattle.text.proofs.pieces.put.Reads as text_put
-use Rattle.text.proofs.pieces.decimal.Reads as text_decimal
-use Rattle.text.proofs.pieces.number.Reads as text_number
-use Rattle.text.proofs.pieces.letter.Reads as text_letter
-use Rattle.logs.proofs.log_record.Reads as logs_log_record
-use Rattle.steps.proofs.cpu_side.read.Reads as steps_read
-use Rattle.steps.proofs.cpu_side.store.Reads as steps_store
-use Rattle.steps.proofs.cpu_side.exram_word.Reads as steps_exram_word
-use Rattle.steps.proofs.ppu_side.count_fetch.Reads as steps_count_fetch
-use Rattle.steps.proofs.ppu_side.counted_answer.Reads as steps_counted_answer
-use Rattle.steps.proofs.ppu_side.chosen_at.Reads as steps_chosen_at
-use Rattle.steps.proofs.ppu_side.map_on_change.Reads as steps_map_on_change
-use Rattle.steps.proofs.ppu_side.other_answer.Reads as steps_other_answer
-use Rattle.steps.proofs.register_writes.write_prg.Reads as steps_write_prg
-use Rattle.steps.proofs.register_writes.write_other.Reads as steps_write_other
-use Rattle.player.proofs.replay.Reads as player_replay
-use Rattle.player.proofs.plays.play.Reads as player_play
-use Rattle.transcript.proofs.printed.print.Reads as transcript_print
-use Rattle.transcript.proofs.cartridge.transcribe.Reads as transcript_transcribe
+use Rattle.theorems_settles.specs.OwnEntries.{board_clock, board_cpu_read, board_cpu_peek, board_cpu_write, board_refuse, board_load, board_ppu_register, board_reset, board_mirroring, board_interrupt_up, board_ppu_ppu_fetch, board_ppu_chr_word_at, board_ppu_ppu_peek, board_ppu_sprite_peek, board_ppu_ppu_write, views_cpu_view, views_ppu_view, trace_kind_of, trace_too_long, trace_address_at, trace_value_at, trace_record_at, trace_first_record, calls_call_on, text_logged_line, text_refused_line, text_unreadable_line, text_too_long_line, text_end_line, text_put, text_decimal, text_number, text_letter, logs_log_record, steps_read, steps_store, steps_exram_word, steps_count_fetch, steps_counted_answer, steps_chosen_at, steps_map_on_change, steps_other_answer, steps_write_prg, steps_write_other, player_replay, player_play, transcript_print, transcript_transcribe}
 use Rattle.calls.specs.Lent.{mem_left}
 use Rattle.theorems_settles.specs.Settled.{Result, Settles}
 

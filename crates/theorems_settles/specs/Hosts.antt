@@ -5,73 +5,15 @@ use Rattle.std.specs.Prelude.{ℕ, List}
 use Rattle.host.specs.Hosted.{left_words, left_memory}
 use Rattle.host_looks.specs.Pages.{copied_of}
 use Rattle.host_replay.specs.Replays.{left_replay}
-use Rattle.host_state.proofs.gate.in_range.Reads as host_state_in_range
-use Rattle.host_state.proofs.gate.passed.Reads as host_state_passed
-use Rattle.host_state.proofs.groups.put_regs.Reads as host_state_put_regs
-use Rattle.host_state.proofs.groups.put_region.Reads as host_state_put_region
-use Rattle.host_state.proofs.groups.put_split.Reads as host_state_put_split
-use Rattle.host_state.proofs.groups.put_detector.Reads as host_state_put_detector
-use Rattle.host_state.proofs.groups.put_tiles.Reads as host_state_put_tiles
-use Rattle.host_state.proofs.groups.put_set.Reads as host_state_put_set
-use Rattle.host_state.proofs.groups.put_status.Reads as host_state_put_status
-use Rattle.host_state.proofs.groups.number_of_mirroring.Reads as host_state_number_of_mirroring
-use Rattle.host_state.proofs.groups.put_mirroring.Reads as host_state_put_mirroring
-use Rattle.host_state.proofs.groups.put_prg_banks.Reads as host_state_put_prg_banks
-use Rattle.host_state.proofs.groups.put_chr_banks.Reads as host_state_put_chr_banks
-use Rattle.host_state.proofs.groups.put_exram_word.Reads as host_state_put_exram_word
-use Rattle.host_state.proofs.groups.put_lengths.Reads as host_state_put_lengths
-use Rattle.host_state.proofs.limits.sized.Reads as host_state_sized
-use Rattle.host_state.proofs.limits.within_limits.Reads as host_state_within_limits
-use Rattle.host_state.proofs.read.mirroring_numbered.Reads as host_state_mirroring_numbered
-use Rattle.host_state.proofs.read.lengths_of.Reads as host_state_lengths_of
-use Rattle.host_state.proofs.read.regs_of.Reads as host_state_regs_of
-use Rattle.host_state.proofs.read.split_of.Reads as host_state_split_of
-use Rattle.host_state.proofs.read.detector_of.Reads as host_state_detector_of
-use Rattle.host_state.proofs.read.status_of.Reads as host_state_status_of
-use Rattle.host_state.proofs.read.mirroring_of.Reads as host_state_mirroring_of
-use Rattle.host_state.proofs.read.prg_banks_of.Reads as host_state_prg_banks_of
-use Rattle.host_state.proofs.read.chr_banks_of.Reads as host_state_chr_banks_of
-use Rattle.host_state.proofs.tables.arrays_sized.Reads as host_state_arrays_sized
-use Rattle.host_state.proofs.tables.prg_ok.Reads as host_state_prg_ok
-use Rattle.host_state.proofs.tables.chr_ok.Reads as host_state_chr_ok
-use Rattle.host_state.proofs.tables.prg_word.Reads as host_state_prg_word
-use Rattle.host_state.proofs.tables.chr_word.Reads as host_state_chr_word
-use Rattle.host_state.proofs.tables.prg_table.Reads as host_state_prg_table
-use Rattle.host_state.proofs.tables.chr_table.Reads as host_state_chr_table
-use Rattle.host_state.proofs.tables.put_prg_table.Reads as host_state_put_prg_table
-use Rattle.host_state.proofs.tables.put_chr_table.Reads as host_state_put_chr_table
-use Rattle.host_state.proofs.whole_state.state_of.Reads as host_state_state_of
-use Rattle.host_state.proofs.whole_state.put_state.Reads as host_state_put_state
-use Rattle.host_answers.proofs.interrupt.Reads as host_answers_interrupt
-use Rattle.host_answers.proofs.mirroring.Reads as host_answers_mirroring
-use Rattle.host_answers.proofs.plain.Reads as host_answers_plain
-use Rattle.host_answers.proofs.with_interrupt.Reads as host_answers_with_interrupt
-use Rattle.host.proofs.clocks.mmc5_clock.Reads as host_clock
-use Rattle.host.proofs.writes.mmc5_cpu_write.Reads as host_cpu_write
-use Rattle.host.proofs.fetches.mmc5_ppu_fetch.Reads as host_ppu_fetch
-use Rattle.host.proofs.loads.mmc5_load.Reads as host_load
-use Rattle.host.proofs.ppu_writes.mmc5_ppu_write.Reads as host_ppu_write
-use Rattle.host.proofs.reads.mmc5_cpu_read.Reads as host_cpu_read
-use Rattle.host.proofs.ppu_registers.mmc5_ppu_register.Reads as host_ppu_register
-use Rattle.host.proofs.resets.mmc5_reset.Reads as host_reset
-use Rattle.host_looks.proofs.pages.mmc5_cpu_entry.Reads as host_looks_cpu_entry
-use Rattle.host_looks.proofs.pages.mmc5_cpu_page.Reads as host_looks_cpu_page
-use Rattle.host_looks.proofs.pages.mmc5_ppu_entry.Reads as host_looks_ppu_entry
-use Rattle.host_looks.proofs.pages.mmc5_ppu_page.Reads as host_looks_ppu_page
-use Rattle.host_looks.proofs.peeks.mmc5_cpu_peek.Reads as host_looks_cpu_peek
-use Rattle.host_looks.proofs.peeks.mmc5_ppu_peek.Reads as host_looks_ppu_peek
-use Rattle.host_looks.proofs.peeks.mmc5_sprite_peek.Reads as host_looks_sprite_peek
-use Rattle.host_looks.proofs.questions.mmc5_interrupt.Reads as host_looks_interrupt
-use Rattle.host_looks.proofs.questions.mmc5_mirroring.Reads as host_looks_mirroring
-use Rattle.host_replay.proofs.mmc5_replay.Reads as host_replay_replay
-use Rattle.calls.specs.Lent.{BufferThen, mem_left}
+use Rattle.theorems_settles.specs.OwnHosts.{host_state_in_range, host_state_passed, host_state_put_regs, host_state_put_region, host_state_put_split, host_state_put_detector, host_state_put_tiles, host_state_put_set, host_state_put_status, host_state_number_of_mirroring, host_state_put_mirroring, host_state_put_prg_banks, host_state_put_chr_banks, host_state_put_exram_word, host_state_put_lengths, host_state_sized, host_state_within_limits, host_state_mirroring_numbered, host_state_lengths_of, host_state_regs_of, host_state_split_of, host_state_detector_of, host_state_status_of, host_state_mirroring_of, host_state_prg_banks_of, host_state_chr_banks_of, host_state_arrays_sized, host_state_prg_ok, host_state_chr_ok, host_state_prg_word, host_state_chr_word, host_state_prg_table, host_state_chr_table, host_state_put_prg_table, host_state_put_chr_table, host_state_state_of, host_state_put_state, host_answers_interrupt, host_answers_mirroring, host_answers_plain, host_answers_with_interrupt, host_clock, host_cpu_write, host_ppu_fetch, host_load, host_ppu_write, host_cpu_read, host_ppu_register, host_reset, host_looks_cpu_entry, host_looks_cpu_page, host_looks_ppu_entry, host_looks_ppu_page, host_looks_cpu_peek, host_looks_ppu_peek, host_looks_sprite_peek, host_looks_interrupt, host_looks_mirroring, host_replay_replay}
+use Rattle.calls.specs.Lent.{ChangedThen, mem_left}
 use Rattle.theorems_settles.specs.Settled.{Result, Settles, beside}
 
--- A call's first parameter is the array of words: a look at it, and what comes behind it.
-abbrev pub words_left : {X : Type 0} → BufferThen X → List ℕ
+-- A call's first parameter is the array of words: a look at it, where it is lent to be changed, and what comes behind it.
+abbrev pub words_left : {X : Type 0} → ChangedThen X → List ℕ
 words_left e = e.0.now
 
-abbrev pub behind_words : {X : Type 0} → BufferThen X → X
+abbrev pub behind_words : {W X : Type 0} → W × X → X
 behind_words e = e.1
 
 pub record HostState : Type 0 where

@@ -1,4 +1,8 @@
 pub mod Settled
+pub mod OwnLeaves
+pub mod OwnStates
+pub mod OwnEntries
+pub mod OwnHosts
 pub mod Leaves
 pub mod Entries
 pub mod Hosts

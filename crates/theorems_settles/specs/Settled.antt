@@ -1,7 +1,7 @@
 -- 01, "What each contract settles": "Every public function has a contract for all of its result and all lent bytes afterwards, refusals too. Any two
--- results it allows are proved equal". What is spoken of here is the contract itself, as the prover reads it off a function's `ensures`: for the
--- lifetimes κ and the arguments a it says which results r, with the parameters e as they are at the exit, are allowed. The prover's name for it is
--- `Learnt`, what a caller may rely on. A change of a contract that leaves something open fails here.
+-- results it allows are proved equal". What is spoken of here is the contract itself, as a function's `ensures` says it (crate `calls`, specs/Own.antt):
+-- for the lifetimes κ and the arguments a it says which results r, with the parameters e as they are at the exit, are allowed. It is called `Learnt`,
+-- what a caller may rely on. A change of a contract that leaves something open fails here.
 -- Assumes nothing.
 use Rattle.std.specs.Prelude.{◌≡◌}
 

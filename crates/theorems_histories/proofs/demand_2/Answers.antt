@@ -1,11 +1,7 @@
 -- The promises are `code_is_the_board` of `Coded.antt` and `one_result` of `OneOnly.antt`.
 use Rattle.theorems_histories.proofs.Coded.{code_is_the_board}
 use Rattle.theorems_histories.proofs.OneOnly.{one_result}
-use Rattle.theorems_histories.proofs.demand_2.Statement.{statement}
-use Rattle.theorems_histories.proofs.demand_2.Tie as tie
+use Rattle.theorems_histories.proofs.demand_2.Goals as goal
 
-returns : tie.Need-returns
+pub returns : goal.returns
 returns c = (code_is_the_board, one_result)
-
-pub demand-2-spec : {M : Type 1} → statement M
-demand-2-spec = tie.close (tie.spec returns)

@@ -3,11 +3,7 @@ use Rattle.theorems_scanlines.proofs.Transfer.{detector_demand_3}
 use Rattle.theorems_scanlines.proofs.InRange.{stays_in_range}
 use Rattle.theorems_scanlines.proofs.SentenceIs.{line_is_the_sentence}
 use Rattle.theorems_scanlines.proofs.Worked.{tests_are_sentences, worked, cases}
-use Rattle.theorems_scanlines.proofs.promises.Statement.{statement}
-use Rattle.theorems_scanlines.proofs.promises.Tie as tie
+use Rattle.theorems_scanlines.proofs.promises.Goals as goal
 
-returns : tie.Need-returns
+pub returns : goal.returns
 returns c = (detector_demand_3, stays_in_range, line_is_the_sentence, tests_are_sentences, worked, cases)
-
-pub promises-spec : {M : Type 1} → statement M
-promises-spec = tie.close (tie.spec returns)
