@@ -2,7 +2,6 @@
 use mathlib.Core.Path.{◌≡◌, refl}
 use Rattle.scanline.specs.Steps.{detector_at_load}
 use Rattle.split.specs.Control.{split_at_load}
-use Rattle.state.specs.declared.State.{State}
 use Rattle.board.specs.Loads.{zero_state, status_at_load}
 
 pub zero_is
