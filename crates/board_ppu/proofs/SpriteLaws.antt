@@ -11,8 +11,8 @@ use lib.Dec.{eqb}
 use lib.ListN.{length, get_or}
 use Rattle.memory.specs.declared.Src.TheVariants.{Chr}
 use Rattle.memory.specs.Bytes.{Mem, byte_at, page_byte}
-use Rattle.memory.specs.Windows.{page_start, window_page, chr_window}
-use Rattle.memory.specs.PageWords.{word, page, blank, word_of, page_of}
+use Rattle.memory.specs.Windows.{window_page, chr_window}
+use Rattle.memory.specs.PageWords.{word, page, blank, page_of}
 use Rattle.memory.specs.Named.{named_as}
 use Rattle.memory.proofs.Tests.{split}
 use Rattle.memory.proofs.WindowLaws.{one_page_window, shown_page}
