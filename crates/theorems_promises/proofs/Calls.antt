@@ -14,7 +14,7 @@ use Rattle.memory.specs.PageWords.{word, page_of}
 use Rattle.memory.proofs.Tests.{pick_keeps}
 use Rattle.registers.specs.declared.Mirroring.{Mirroring}
 use Rattle.registers.specs.declared.Regs.{Regs}
-use Rattle.registers.specs.Registers.{written, nametable_use, regs_ok, regs_at_load, reset_regs}
+use Rattle.registers.specs.Registers.{nametable_use, regs_ok, regs_at_load, reset_regs}
 use Rattle.registers.proofs.RangeLaws.{ranges_say, ranges_hold, loaded_in_range, write_keeps}
 use Rattle.scanline.specs.declared.Detector.{Detector}
 use Rattle.scanline.specs.Tiles.{tiles_ok}

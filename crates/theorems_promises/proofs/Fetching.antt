@@ -77,7 +77,7 @@ module _ (s : State) (a : ℕ) (h : in_range s ≡ true) where
         cache = r.cache;
         tiles = r.tiles;
         prg_pages = r.prg_pages;
-        chr-pages =
+        chr_pages =
             pick_keeps (λ (p : List PageWord). chr_table_ok s.lengths.chr s.lengths.chr_writable p ≡ true) (set_changed s.ppu.bg_set (pattern_ppu s).bg_set)
             (chr_keeps s.lengths.prg s.lengths.chr s.lengths.ram (mappable s.lengths r.lengths) s.lengths.chr_writable s.regs s.chr_banks (pattern_ppu s).bg_set s.chr_pages r.chr_pages)
             r.chr_pages;

@@ -1,6 +1,6 @@
 -- The two promises, put together from the laws of each call.
 use Prim.Native.Nat.{ℕ, ◌/◌}
-use mathlib.Core.Bool.{Bool, true, false, ◌&&◌, ◌||◌, not}
+use mathlib.Core.Bool.{Bool, false, ◌&&◌, ◌||◌, not}
 use mathlib.Core.List.{List}
 use mathlib.Core.Path.{◌≡◌, refl}
 use lib.Dec.{eqb, leb, ltb}
