@@ -6,11 +6,11 @@ use Rattle.scanline.proofs.tiles.next_tile.Goals as goal
 
 pub returns-then-tiles-eq83 : goal.returns-then-tiles-eq83
 unfolding next_tile
-returns-then-tiles-eq83 c = rw (eq-eqb _ 83 c.if-tiles-eq83.true)
+returns-then-tiles-eq83 c = rw (eq-eqb c.args.tiles 83 c.if-tiles-eq83.true)
 
 pub returns : goal.returns
 unfolding next_tile
-returns c = rw (ne_eqb _ 83 c.if-tiles-eq83.false)
+returns c = rw (ne_eqb c.args.tiles 83 c.if-tiles-eq83.false)
 
 pub overflow_add-result : goal.overflow_add-result
 unfolding tiles_ok

@@ -9,8 +9,8 @@ returns-then-column-v c = rw (c.if-column-v.true, c.side_at-side.ensures)
 
 pub returns-then-column-gt32 : goal.returns-then-column-gt32
 unfolding region_at
-returns-then-column-gt32 c = rw (c.if-column-v.false, lt-ltb 32 _ c.if-column-gt32.true)
+returns-then-column-gt32 c = rw (c.if-column-v.false, lt-ltb 32 c.args.column c.if-column-gt32.true)
 
 pub returns : goal.returns
 unfolding region_at
-returns c = rw (c.if-column-v.false, le-ltb 32 _ c.if-column-gt32.false, c.side_at-side.ensures)
+returns c = rw (c.if-column-v.false, le-ltb 32 c.args.column c.if-column-gt32.false, c.side_at-side.ensures)
