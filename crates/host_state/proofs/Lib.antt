@@ -8,3 +8,4 @@ pub mod With
 pub mod PutLaws
 pub mod Backs
 pub mod Forths
+pub mod Exporting
