@@ -5,7 +5,7 @@ use Rattle.memory.specs.Bytes.{Mem}
 use Rattle.memory.specs.Tests.{pick}
 use Rattle.registers.specs.Registers.{attribute_use}
 use Rattle.scanline.specs.Tiles.{sprite_fetch}
-use Rattle.banks.specs.Chr.{Asked, background}
+use Rattle.banks.specs.Chr.{background}
 use Rattle.cpu.specs.Writes.{maps_chr}
 use Rattle.ppu.specs.Served.{split_serves}
 use Rattle.state.specs.declared.State.{State}
