@@ -173,7 +173,7 @@ module _ (b₀ : Board) (o₀ : Opened b₀) (trace log₀ : List ℕ) where
   from_there s = rw (le-ltb 8192 (length trace) s, o₀) starts
 
 -- Calls that go on with a history.
-goes_on : (l : Load) {hs cs : List Made} {a b : Board} → Reached l hs a → Leads a cs b → Reached l (cs ++ hs) b
+goes_on : (l : Load) {hs : List Made} {a : Board} {cs : List Made} {b : Board} → Reached l hs a → Leads a cs b → Reached l (cs ++ hs) b
 goes_on l r at_load = r
 goes_on l r (taken c p t) = taken c (goes_on l r p) t
 

@@ -18,7 +18,7 @@ pub record Load : Type 0 where
   pub mem : Mem
   pub as_ram : Bool
   pub mirroring : Mirroring
-  pub accepted : (load_call mem as-ram mirroring).answer ≡ Nothing
+  pub accepted : (load_call mem as_ram mirroring).answer ≡ Nothing
 
 -- The board that it leaves. "Load writes no lent byte".
 abbrev pub first : Load → Board
