@@ -1,6 +1,5 @@
-// The reader: the trace slice and its place together. 01, "Trace": "The trace reader keeps the trace slice and its place together." The
-// borrow checker covers no function over such a struct, so these are few and thin and proved by hand; the work is in `record_at`. Who has
-// a plain slice calls `first_record` and `records::record_at`, and needs no proof by hand.
+// The reader: the trace slice and its place together. 01, "Trace": "The trace reader keeps the trace slice and its place together." These
+// functions are few and thin; the work is in `record_at`. Who has a plain slice calls `first_record` and `records::record_at`.
 ghost use Rattle.std.specs.Prelude.{◌≡◌};
 ghost use Rattle.trace.specs.Records.{record_at};
 

@@ -1,6 +1,4 @@
-pub mod Again
 pub mod Printing
-pub mod Turns
 pub mod Pages
 pub mod Overs
 pub mod Counting

@@ -1,5 +1,5 @@
 -- The loop over records that prints: what holds at its head, and what one line does to that.
-use Prim.Native.Nat.{ℕ, zero, suc, ◌+◌, ◌<◌, ◌≤◌}
+use Prim.Native.Nat.{ℕ, zero, suc, ◌+◌, ◌-◌, ◌<◌, ◌≤◌}
 use mathlib.Core.Bool.{true, false}
 use mathlib.Core.List.{List}
 use mathlib.Core.Path.{◌≡◌, refl, sym, ◌∙◌, ap, subst}
@@ -14,6 +14,7 @@ use Rattle.trace.proofs.RecordLaws.{record_advances}
 use Rattle.text.specs.Sheet.{Sheet, sheet, text_written}
 use Rattle.text.proofs.SheetLaws.{joined}
 use Rattle.player.specs.declared.Ending.{Ending}
+use Rattle.transcript.specs.declared.printed.Line.{Line}
 use Rattle.transcript.specs.Printed.{stopped_at, line_of, goes_on, next_of, printed_from}
 
 -- What is left to print, from here with so much fuel, comes to all that is printed.
@@ -67,3 +68,22 @@ module _ (trace log : List ℕ) (e : Ending) (all : Sheet) (to at n : ℕ) (out 
       → sheet out' to' ≡ text_written (sheet out to) (line_of (record_at trace at) at n log e)
       → (at < next_of (record_at trace at) at) × Printing trace log e all to' (next_of (record_at trace at) at) (n + 1) out'
   goes to' out' p o w = goes_by to' out' p.fuel (record_at trace at) refl o p.enough p p.rest w
+
+-- One turn of the loop, by what `print_record` ensures of its line r and of the text out' after it.
+module _ {trace log : List ℕ} {e : Ending} {all : Sheet} {to at n : ℕ} {out : List ℕ} (p : Printing trace log e all to at n out)
+    (f : Found) (found : f ≡ record_at trace at) (r : Line) (out' : List ℕ)
+    (lined : (sheet out' r.to ≡ text_written (sheet out to) (line_of f at n log e)) × ((r.more ≡ goes_on f at e) × (r.next ≡ next_of f at))) where
+  here : (sheet out' r.to ≡ text_written (sheet out to) (line_of (record_at trace at) at n log e)) × ((r.more ≡ goes_on (record_at trace at) at e) × (r.next ≡ next_of (record_at trace at) at))
+  here = subst (λ (g : Found). (sheet out' r.to ≡ text_written (sheet out to) (line_of g at n log e)) × ((r.more ≡ goes_on g at e) × (r.next ≡ next_of g at))) found lined
+
+  -- the last line
+  pub last_line : r.more ≡ false → sheet out' r.to ≡ all
+  last_line over = ends trace log e all to at n out (sheet out' r.to) p (sym here.1.0 ∙ over) here.0
+
+  -- a line that a record follows
+  pub onward : r.more ≡ true → (at < r.next) × Printing trace log e all r.to r.next (n + 1) out'
+  onward on =
+      subst (λ (k : ℕ). (at < k) × Printing trace log e all r.to k (n + 1) out') (sym here.1.1) (goes trace log e all to at n out r.to out' p (sym here.1.0 ∙ on) here.0)
+
+  pub nearer : r.more ≡ true → length trace - r.next < length trace - at
+  nearer on = let o = onward on in omega (arith, o.0, o.1.inside)

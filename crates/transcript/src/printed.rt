@@ -88,7 +88,7 @@ fn print_record(
     }
 }
 
-// The lines of a trace that is not too long. The loop carries a reader, so it is proved by hand; the work on a record is `print_record`.
+// The lines of a trace that is not too long. The loop carries a reader; the work on a record is `print_record`.
 fn print_records(out: &mut [u8], trace: &[u8], log: &[u8], ending: Ending) -> usize
     requires { length trace.now ≤ 8192 }
     ensures { sheet out.new result ≡ text_written (sheet out.old 0) (printed_from (suc (length trace.now)) trace.now 0 0 log.now ending) }
