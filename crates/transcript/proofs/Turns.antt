@@ -38,11 +38,11 @@ module _ (trace log : List ℕ) (e : Ending) (out₀ : List ℕ) where
     pub at : ℕ
     pub out : List ℕ
     pub same : length out ≡ length out₀
-    pub to-fits : to < 2 ^ 64
+    pub to_fits : to < 2 ^ 64
     pub going : Printing trace log e all_of to at n out
 
-  abbrev pub first-turn : length trace ≤ 8192 → Turn
-  first-turn short = record { to = 0; n = 0; at = 0; out = out₀; same = refl; to-fits = lit< tt; going = begins trace log e out₀ short }
+  abbrev pub first_turn : length trace ≤ 8192 → Turn
+  first_turn short = record { to = 0; n = 0; at = 0; out = out₀; same = refl; to_fits = lit< tt; going = begins trace log e out₀ short }
 
   pub at_fits : (t : Turn) → t.at < 2 ^ 64
   at_fits t = lt_of_le_of_lt (le_trans t.going.inside t.going.short) (lit< tt)
@@ -81,8 +81,8 @@ module _ (trace log : List ℕ) (e : Ending) (out₀ : List ℕ) where
       onward = subst (λ (k : ℕ). (t.at < k) × Printing trace log e all_of r.to k (t.n + 1) out) (sym here.1.1)
           (goes trace log e all_of t.to t.at t.n t.out r.to out t.going (sym here.1.0 ∙ up r.more on) here.0)
 
-      abbrev pub next-turn : length out ≡ length t.out → r.to < 2 ^ 64 → Turn
-      next-turn long fits = record { to = r.to; n = t.n + 1; at = r.next; out = out; same = long ∙ t.same; to-fits = fits; going = onward.1 }
+      abbrev pub next_turn : length out ≡ length t.out → r.to < 2 ^ 64 → Turn
+      next_turn long fits = record { to = r.to; n = t.n + 1; at = r.next; out = out; same = long ∙ t.same; to_fits = fits; going = onward.1 }
 
       pub nearer : length trace - r.next < length trace - t.at
       nearer = omega (arith, onward.0, onward.1.inside)

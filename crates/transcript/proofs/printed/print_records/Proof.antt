@@ -41,8 +41,8 @@ use denote.Exit.{yes}
 use Rattle.trace.specs.declared.reader.Reader.{Reader}
 use Rattle.player.specs.declared.Ending.{Ending}
 use Rattle.text.specs.Sheet.{sheet}
-use Rattle.trace.proofs.ReaderCalls.{New, Next, Adv, Alive, OwnReader, OwnSlice, got_typed, twice_reader, makes-reader, reads-record, moves-reader}
-use Rattle.transcript.proofs.Turns.{all_of, Turn, first-turn, at_fits, n_small, next_fits, Nearer, nearer_wf, last_line, next-turn, nearer}
+use Rattle.trace.proofs.ReaderCalls.{New, Next, Adv, Alive, OwnReader, OwnSlice, got_typed, twice_reader, makes_reader, reads_record, moves_reader}
+use Rattle.transcript.proofs.Turns.{all_of, Turn, first_turn, at_fits, n_small, next_fits, Nearer, nearer_wf, last_line, next_turn, nearer}
 use Rattle.transcript.proofs.printed.print_records.Proof.LineCall.{One, ending_val, OwnEnding, OwnText, prints-line}
 use Rattle.trace.proofs.reader.Reader.TheLaws as T'
 use Rattle.trace.specs.contracts.Found as S
@@ -167,7 +167,7 @@ module _ {M : Type 1} {𝓤 : Ura M} (𝓛 : Logic 𝓤) (mem : Memory → SProp
       turns t =
           -- [the reader; κ₁; out; κ₀; κ₂; the ending; the log; the trace; room for _15; …; room for _0; …]
           got_typed ! κ₁ (reader t.at) (λ typed. assigns ! (of_opd ! (load ! (from ! (stop !)) (look ! 28 refl))) (from ! (stop !)) (init ! 18 refl typed) $ twice_reader ! κ₁ (reader t.at) $ move ! (0 ∷ 2 ∷ []) $
-          reads-record ! fm mem run known_next κ₁ q₁ (reader t.at) (and_then ! (load ! (from ! (stop !)) (look ! 18 refl)) (no_more !)) (λ u f found is_found.
+          reads_record ! fm mem run known_next κ₁ q₁ (reader t.at) (and_then ! (load ! (from ! (stop !)) (look ! 18 refl)) (no_more !)) (λ u f found is_found.
           -- [what was found; κ₁; the reader; out; κ₀; κ₂; the ending; the log; the trace; room for _15; …]
           land ! (from ! (stop !)) (init ! 23 refl ((EL.lawful S.the_type S'.the_laws 𝓛 tt).typed f _ is_found).0) $
           assigns ! (addr ! (from ! (fld ! refl (hop ! (look_in ! 37 (sub ! 0 refl (whole !))) (stop !))))) (from ! (stop !)) (init ! 17 refl (tt, tt)) $
@@ -191,11 +191,11 @@ module _ {M : Type 1} {𝓤 : Ura M} (𝓛 : Logic 𝓤) (mem : Memory → SProp
           -- a record follows: the reader moves on
           (λ more. skips ! $ exec ! C Λ En tail (any_q (Turned t)) $
           assigns ! (of_opd ! (load ! (from ! (stop !)) (look ! 28 refl))) (from ! (stop !)) (init ! 8 refl typed) $ move ! (6 ∷ 5 ∷ []) $
-          moves-reader ! fm mem run known-adv κ₁ q₁ (reader t.at) r.next fits.next (and_then ! (load ! (from ! (stop !)) (look ! 7 refl)) (and_then ! (load ! (from ! (fld ! refl (stop !))) (look_in ! 19 (sub ! 2 refl (whole !)))) (no_more !))) (λ typed-next.
+          moves_reader ! fm mem run known-adv κ₁ q₁ (reader t.at) r.next fits.next (and_then ! (load ! (from ! (stop !)) (look ! 7 refl)) (and_then ! (load ! (from ! (fld ! refl (stop !))) (look_in ! 19 (sub ! 2 refl (whole !)))) (no_more !))) (λ typed-next.
           land ! (from ! (stop !)) (store ! 28 refl typed-next) $
           assigns_last ! (bin ! (load ! (from ! (stop !)) (look ! 24 refl)) (lit ! tt) (record { fits = next_fits s.now lg.now e ys t })) (from ! (stop !)) (store ! 24 refl (tt, record { fits = next_fits s.now lg.now e ys t })) $
           forget ! 8 refl $ forget ! 10 refl $ forget ! 12 refl $ forget ! 14 refl $ forget ! 16 refl $ forget ! 18 refl $ forget ! 20 refl $ forget ! 22 refl $
-          again ! (Nearer s.now lg.now e ys) At t (next-turn s.now lg.now e ys t f found r l lined more long fits.to) (nearer s.now lg.now e ys t f found r l lined more))))))
+          again ! (Nearer s.now lg.now e ys) At t (next_turn s.now lg.now e ys t f found r l lined more long fits.to) (nearer s.now lg.now e ys t f found r l lined more))))))
 
       loop-runs : (t : Turns) → Sq 𝓛 (At t) (runs C Λ En pieces.t-4 (at_ret En Post))
       loop-runs t = first ! $ blocks ! $ loops ! 𝓣 (Nearer s.now lg.now e ys) (nearer_wf s.now lg.now e ys) At turns t
@@ -214,11 +214,11 @@ module _ {M : Type 1} {𝓤 : Ura M} (𝓛 : Logic 𝓤) (mem : Memory → SProp
           move ! (36 ∷ []) $ split ! $ move ! (1 ∷ []) $ split ! $ nothing ! $ move ! (1 ∷ 0 ∷ []) $ join ! $
           -- [κ₁; κ₂; κ₀; the ending; the log; the trace; out; room for _15; …]
           move ! (5 ∷ []) $ use1 𝓛 (OwnSlice κ₁ s ⊛ OwnSlice κ₁ s) ((shr_slice_copy 𝓛 (named 0) κ₁ u8).twice s (vs ∷ [])) $ split ! $ move ! (0 ∷ 2 ∷ []) $
-          makes-reader ! fm mem run known-new κ₁ q₁ s (and_then ! (load ! (from ! (stop !)) (look ! 33 refl)) (no_more !)) (λ typed.
+          makes_reader ! fm mem run known-new κ₁ q₁ s (and_then ! (load ! (from ! (stop !)) (look ! 33 refl)) (no_more !)) (λ typed.
           -- [the reader; κ₁; the trace; κ₂; κ₀; the ending; the log; out; room for _15; …]
           land ! (from ! (stop !)) (init ! 28 refl typed) $
           assigns ! (of_opd ! (lit ! tt)) (from ! (stop !)) (init ! 26 refl (tt, record { fits = lit< tt })) $ assigns ! (of_opd ! (lit ! tt)) (from ! (stop !)) (init ! 24 refl (tt, record { fits = lit< tt })) $
-          move ! (0 ∷ 1 ∷ 7 ∷ 4 ∷ 3 ∷ 5 ∷ 6 ∷ 2 ∷ []) $ loop-runs (first-turn s.now lg.now e ys short))
+          move ! (0 ∷ 1 ∷ 7 ∷ 4 ∷ 3 ∷ 5 ∷ 6 ∷ 2 ∷ []) $ loop-runs (first_turn s.now lg.now e ys short))
 
     walk : length s.now ≤ 8192 → Is (ShrSlice (named 1) κ₁ u8) s (vs ∷ []) → Is (ShrSlice (named 2) κ₂ u8) lg (vl ∷ []) → Is E.the_row e (ending_val e ∷ [])
         → ent 𝓤 (on_entry 𝓛 every.signature (κ₀, (κ₁, (κ₂, tt))) (q₀, (q₁, (q₂, tt))) a vals) (WpFn 𝓤 H C Λ code.function (vo ∷ vs ∷ vl ∷ ending_val e ∷ []) Post)

@@ -104,19 +104,19 @@ module _ {M : Type 1} {𝓤 : Ura M} (𝓛 : Logic 𝓤) (mem : Memory → SProp
   Given-up ν δ = ‵ (flft (ν ∷ []) full_share) ∷ Alive κ₂ q₂ ∷ OwnText (ν ∷ []) b o size δ l ∷ OwnFound ∷ OwnEnding e ∷ OwnSlice κ₂ lg ∷ []
 
   asked : (ν : ℕ) (δ : GName) → to < 2 ^ 64 → at < 2 ^ 64 → n ≤ 8192 → ent 𝓤 (⋆ 𝓛 (Given-up ν δ)) ((One 𝓛 mem run).pre (to_one ν δ))
-  asked ν δ to-fits at_fits small =
+  asked ν δ to_fits at_fits small =
       qed 𝓛 (Given-up ν δ) ∵ says ! small $ join ! $ frame ! $
       nothing ! $ move ! (3 ∷ 0 ∷ []) $ fjoin ! $ move ! (3 ∷ 0 ∷ []) $ fjoin ! $ move ! (2 ∷ 0 ∷ []) $ fjoin ! $
       owned ! usize (Is usize) (uint_Makes 𝓛 w64) at _ (refl, at_fits) $ fjoin ! $ owned ! usize (Is usize) (uint_Makes 𝓛 w64) n _ (refl, lt_of_le_of_lt small (lit< tt)) $ fjoin ! $
-      owned ! usize (Is usize) (uint_Makes 𝓛 w64) to _ (refl, to-fits) $ fjoin ! $ move ! (1 ∷ 0 ∷ []) $ fjoin ! $ done !
+      owned ! usize (Is usize) (uint_Makes 𝓛 w64) to _ (refl, to_fits) $ fjoin ! $ move ! (1 ∷ 0 ∷ []) $ fjoin ! $ done !
 
   -- the log and the ending are Copy: a copy of each is kept
   goes : (ν : ℕ) (δ : GName) → to < 2 ^ 64 → at < 2 ^ 64 → n ≤ 8192 → ent 𝓤 (⋆ 𝓛 (Given-up ν δ)) (⋆ 𝓛 (raw ((One 𝓛 mem run).pre (to_one ν δ)) ∷ OwnEnding e ∷ OwnSlice κ₂ lg ∷ []))
-  goes ν δ to-fits at_fits small =
+  goes ν δ to_fits at_fits small =
       qed 𝓛 (Given-up ν δ) ∵
       move ! (5 ∷ []) $ use1 𝓛 (OwnSlice κ₂ lg ⊛ OwnSlice κ₂ lg) ((shr_slice_copy 𝓛 (named 0) κ₂ u8).twice lg (slice_val lg.ref_ptr (length lg.now) ∷ [])) $ split ! $
       move ! (6 ∷ []) $ use1 𝓛 (OwnEnding e ⊛ OwnEnding e) ((EL.copy E.the_type E'.the_copy 𝓛).twice e (ending_val e ∷ [])) $ split ! $
-      move ! (4 ∷ 5 ∷ 6 ∷ 7 ∷ 0 ∷ 2 ∷ []) $ group ! 6 $ use1 𝓛 (raw ((One 𝓛 mem run).pre (to_one ν δ))) (asked ν δ to-fits at_fits small) $ done !
+      move ! (4 ∷ 5 ∷ 6 ∷ 7 ∷ 0 ∷ 2 ∷ []) $ group ! 6 $ use1 𝓛 (raw ((One 𝓛 mem run).pre (to_one ν δ))) (asked ν δ to_fits at_fits small) $ done !
 
   -- what is ensured of a line and the text after it
   abbrev Lined : Line → List ℕ → Type 0
@@ -128,10 +128,10 @@ module _ {M : Type 1} {𝓤 : Ura M} (𝓛 : Logic 𝓤) (mem : Memory → SProp
         → ((r : Line) (l' : List ℕ) → length l' ≡ length l → Lined r l' → Fits r
         → Seq K 𝓛 (OwnText κ b o size γ l' ∷ ‵ (flft κ q) ∷ Alive κ₂ q₂ ∷ OwnEnding e ∷ OwnSlice κ₂ lg ∷ Γ) (lands C Λ En p (L'.lowered r) rest z))
         → Seq K 𝓛 (OwnText κ b o size γ l ∷ ‵ (flft κ q) ∷ Alive κ₂ q₂ ∷ OwnFound ∷ OwnEnding e ∷ OwnSlice κ₂ lg ∷ Γ) (runs C Λ En (seq (call #print-record xs p) rest) z)
-    prints-line t fm known room same to-fits at_fits small os k =
+    prints-line t fm known room same to_fits at_fits small os k =
         lft_new t tt (λ ν. move t (1 ∷ 2 ∷ []) $ use2 𝓛 (later (some (λ (δ : GName). OwnText (ν ∷ []) b o size δ l ⊛ kept ν δ))) (lends ν same) $ await t tt $ pick t (λ δ. split t $
         -- [the text, lent; what is kept of it; ν; κ₂; what was found; the ending; the log; …]
-        move t (2 ∷ 3 ∷ 0 ∷ 4 ∷ 5 ∷ 6 ∷ []) $ group t 6 $ use1 𝓛 (raw ((One 𝓛 mem run).pre (to_one ν δ)) ⊛ OwnEnding e ⊛ OwnSlice κ₂ lg) (goes ν δ to-fits at_fits small) $ split t $ move t (1 ∷ []) $ split t $ move t (2 ∷ []) $
+        move t (2 ∷ 3 ∷ 0 ∷ 4 ∷ 5 ∷ 6 ∷ []) $ group t 6 $ use1 𝓛 (raw ((One 𝓛 mem run).pre (to_one ν δ)) ⊛ OwnEnding e ⊛ OwnSlice κ₂ lg) (goes ν δ to_fits at_fits small) $ split t $ move t (1 ∷ []) $ split t $ move t (2 ∷ []) $
         calls_at t fm (One 𝓛 mem run) known (to_one ν δ) (os ν δ) (λ w.
         use1 𝓛 (later (some (λ (r : Line). ((‵ (flft (ν ∷ []) full_share) ⊛ Alive κ₂ q₂) ⊛ ‵ ((L.the_row).own_val r (w ∷ []))) ⊛ raw (ensured 𝓛 one.ended (one.clauses 𝓛 mem run) (ν ∷ [], (κ₂, tt)) (handed δ) tt r)))) (id⊢ 𝓤 _) $ await t tt $ pick t (λ r.
         split t $ move t (1 ∷ []) $ use1 𝓛 (some (λ (ws : Lasts one.ended (ν ∷ [], (κ₂, tt)) (handed δ)). ‵ (lasts one.ended (ν ∷ [], (κ₂, tt)) (handed δ) ws) ⊛ raw (fact 𝓤 (Lined r ws.0)))) (id⊢ 𝓤 _) $ pick t (λ ws.
