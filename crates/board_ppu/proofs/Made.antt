@@ -69,52 +69,52 @@ module _ (s : State) (m : Mem) (h : gate_mem s m ≡ Open) where
   reset_made = rw (open_in_range s _ _ _ _ _ h)
 
   module _ (a : ℕ) where
-    pub read-refused : audio_read a ≡ true → cpu_read s m a ≡ refused s Audio
+    pub read_refused : audio_read a ≡ true → cpu_read s m a ≡ refused s Audio
     unfolding cpu_read
-    read-refused t = rw (h, t)
+    read_refused t = rw (h, t)
 
     pub read_made : audio_read a ≡ false → cpu_read s m a ≡ outcome (cpu_answer s m a) (with_irq s (irq_read s.irq a))
     unfolding cpu_read
     read_made f = rw (h, f)
 
-    pub fetch-refused : counter_refused s.irq a ≡ true → ppu_fetch s m a ≡ refused s Counter
+    pub fetch_refused : counter_refused s.irq a ≡ true → ppu_fetch s m a ≡ refused s Counter
     unfolding ppu_fetch
-    fetch-refused t = rw (h, t)
+    fetch_refused t = rw (h, t)
 
-    pub fetch-counted : counter_refused s.irq a ≡ false → counted_at a ≡ true
+    pub fetch_counted : counter_refused s.irq a ≡ false → counted_at a ≡ true
         → ppu_fetch s m a
         ≡ outcome (counted_served s.regs (counted_split s a) (counted_irq s a).in_frame (counted_ppu s a) m.exram a (chr_answer s.chr_pages m a)) (counted_state s a)
     unfolding ppu_fetch
-    fetch-counted f t = rw (h, f, t) (counted_by_groups s m a)
+    fetch_counted f t = rw (h, f, t) (counted_by_groups s m a)
 
-    pub fetch-other : counter_refused s.irq a ≡ false → counted_at a ≡ false
+    pub fetch_other : counter_refused s.irq a ≡ false → counted_at a ≡ false
         → let p = chosen_at s.ppu s.irq.in_frame a in
         let pages = pattern_pages s p.bg_set in
         ppu_fetch s m a
         ≡ outcome (pick (ltb a 0x2000) (pattern_served s.regs s.vsplit s.irq p m.exram m.chr a (chr_answer pages m a)) (chr_answer pages m a))
         (with_chr_pages (with_ppu s p) pages)
     unfolding ppu_fetch pattern_call chosen_at pattern_pages
-    fetch-other f n =
+    fetch_other f n =
         rw (h, f, n)
         (split (ltb a 0x2000) (λ low. rw low) (λ high. rw (high, same_set s.ppu.bg_set)))
 
     module _ (v : ℕ) where
-      pub register-made : ppu_register_call s a v ≡ outcome Nothing (ppu_register_written s a v)
+      pub register_made : ppu_register_call s a v ≡ outcome Nothing (ppu_register_written s a v)
       unfolding ppu_register_call
-      register-made = rw (open_in_range s _ _ _ _ _ h)
+      register_made = rw (open_in_range s _ _ _ _ _ h)
 
-      pub ppu-write-made : ppu_write s m a v ≡ after_of (outcome Nothing s) (page_stored m (page_of (chr_word_at s.chr_pages a)) a v)
+      pub ppu_write_made : ppu_write s m a v ≡ after_of (outcome Nothing s) (page_stored m (page_of (chr_word_at s.chr_pages a)) a v)
       unfolding ppu_write
-      ppu-write-made = rw h
+      ppu_write_made = rw h
 
-      pub write-refused : audio_write a ≡ true → cpu_write s m a v ≡ after_of (refused s Audio) m
+      pub write_refused : audio_write a ≡ true → cpu_write s m a v ≡ after_of (refused s Audio) m
       unfolding cpu_write
-      write-refused t = rw (h, t)
+      write_refused t = rw (h, t)
 
       -- A write, by the state that it leaves; the page is the one that the table showed before.
-      pub write-made : (t : State) → audio_write a ≡ false → register_written s a v ≡ t
+      pub write_made : (t : State) → audio_write a ≡ false → register_written s a v ≡ t
           → cpu_write s m a v
           ≡ after_of (outcome Nothing t)
           (page_stored (mem_of m.prg m.chr m.ram m.ciram (latched s.regs.exram_mode s.ppu.rendering a v m.exram)) (page_of (prg_word_at s.prg_pages a)) a v)
       unfolding cpu_write cpu_stored
-      write-made t f e = rw (h, f, word_kept s a v, e)
+      write_made t f e = rw (h, f, word_kept s a v, e)

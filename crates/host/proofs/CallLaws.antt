@@ -34,7 +34,7 @@ use Rattle.board.specs.CpuSide.{cpu_read}
 use Rattle.board.specs.Outcomes.{outcome, After, after_of}
 use Rattle.board.specs.StateCalls.{clock_call, reset_call, ppu_register_call}
 use Rattle.board_ppu.specs.Peeks.{chr_word_at, ppu_write}
-use Rattle.board_ppu.proofs.Made.{read_made, read-refused, ppu-write-made}
+use Rattle.board_ppu.proofs.Made.{read_made, read_refused, ppu_write_made}
 use Rattle.theorems_promises.proofs.Promised.{who_is_refused}
 use Rattle.host_state.specs.Put.{irq_words, reg_words, status_words}
 use Rattle.host_state.specs.Words.{status_of, state_of, words_of}
@@ -117,7 +117,7 @@ pub store_left : (w : List ℕ) (m m' : Mem) (a x : ℕ) (y : PageWord) (d : Det
 store_left w m m' a x y d n e g ey em ed en =
     let stored : m' ≡ page_stored m (page_of (chr_word_at (state_of w).chr_pages a)) a x = em ∙ ap (λ (z : PageWord). page_stored m (page_of z) a x) ey in
     taken_memory w w m m' (λ (s : State). ppu_write s m a x) Nothing (state_of w) n refl
-    (ppu-write-made (state_of w) m g a x ∙ ap (after_of (outcome Nothing (state_of w))) (sym stored))
+    (ppu_write_made (state_of w) m g a x ∙ ap (after_of (outcome Nothing (state_of w))) (sym stored))
     (sym (words_back w e (open_in_range w m g))) (en ∙ ap (answer_with_interrupt Nothing) ed)
 
 -- The CPU read.
@@ -128,7 +128,7 @@ read_shut w m a k r n e t en =
 pub read_audio : (w : List ℕ) (m : Mem) (a : ℕ) (b : Bool) (n : ℕ)
     → gate_mem (state_of w) m ≡ Open → b ≡ audio_read a → b ≡ true → n ≡ answer_plain (Refused Audio) → left_words n w ≡ on_words w (λ (s : State). cpu_read s m a)
 read_audio w m a b n g eb tb en =
-    refused_left w (λ (s : State). cpu_read s m a) Audio n (ap (λ (o : Outcome). o.answer) (read-refused (state_of w) m g a (sym eb ∙ tb))) en
+    refused_left w (λ (s : State). cpu_read s m a) Audio n (ap (λ (o : Outcome). o.answer) (read_refused (state_of w) m g a (sym eb ∙ tb))) en
 
 read_done : (s : State) (m : Mem) (a : ℕ) (x : PageWord) (y : Answer) (r : Regs) (v : VSplit) (d d' : Detector) (pb cb : List ℕ)
     → gate_mem s m ≡ Open → audio_read a ≡ false

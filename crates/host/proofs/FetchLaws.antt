@@ -42,7 +42,7 @@ use Rattle.board.specs.declared.Outcome.{Outcome}
 use Rattle.board.specs.Outcomes.{outcome}
 use Rattle.board_ppu.specs.Fetch.{pattern_pages, ppu_fetch}
 use Rattle.board_ppu.specs.Peeks.{chr_word_at, chr_answer}
-use Rattle.board_ppu.proofs.Made.{fetch-counted, fetch-other}
+use Rattle.board_ppu.proofs.Made.{fetch_counted, fetch_other}
 use Rattle.theorems_promises.proofs.Gates.{in_range_of}
 use Rattle.theorems_promises.proofs.Promised.{who_is_refused}
 use Rattle.steps.specs.Sides.{chosen_at}
@@ -122,14 +122,14 @@ module _ (w : List ℕ) (e : length w ≡ 144) where
 
   -- Mapping on a change: the words without one, and with one.
   module _ (h : in_range (state_of w) ≡ true) (b a g : Bool) (eb : b ≡ (state_of w).ppu.bg_set) (eg : g ≡ set_changed b a) where
-    pub unmapped-words : not g ≡ true → w ≡ words_of (with_chr_pages (state_of w) (pattern_pages (state_of w) a))
-    unmapped-words t =
+    pub unmapped_words : not g ≡ true → w ≡ words_of (with_chr_pages (state_of w) (pattern_pages (state_of w) a))
+    unmapped_words t =
         sym (words_back w e h) ∙ ap (λ (l : List PageWord). words_of (with_chr_pages (state_of w) l)) (sym (pages_same (state_of w) b a g eb eg t))
 
-    pub mapped-words : (z : Lengths) (r : Regs) (banks : List ℕ) (shown mapped : List PageWord) (v : List ℕ) → not g ≡ false
+    pub mapped_words : (z : Lengths) (r : Regs) (banks : List ℕ) (shown mapped : List PageWord) (v : List ℕ) → not g ≡ false
         → z ≡ lengths_of w → r ≡ regs_of w → banks ≡ chr_banks_of w → shown ≡ pages_of (chr_numbers w) → mapped ≡ chr_mapped z.chr z.chr_writable r banks a shown
         → v ≡ chr_page_words w mapped → v ≡ words_of (with_chr_pages (state_of w) (pattern_pages (state_of w) a))
-    mapped-words z r banks shown mapped v t ez er ek es em ev =
+    mapped_words z r banks shown mapped v t ez er ek es em ev =
         ev
         ∙ ap (chr_page_words w) (pages_mapped (state_of w) b a g z r banks shown mapped eb eg t ez er ek es em)
         ∙ ap (λ (l : List ℕ). chr_page_words l (pattern_pages (state_of w) a)) (sym (words_back w e h))
@@ -150,14 +150,14 @@ module _ (s : State) (m : Mem) (a : ℕ) (r : Regs) (d : Detector) (p : PpuStatu
       → x ≡ chr_word_at s.chr_pages a → y ≡ counted_served r v' d'.in_frame p' m.exram a (page_answer m (page_of x) a)
       → ppu_fetch s m a ≡ outcome y (with_vsplit (with_ppu (with_irq s d') p') v')
   unfolding chr_answer
-  counted_done d' p' v' x y t ed' ep' ev' ex ey = fetch-counted s m h a f t ∙ rw (ey, ex, ev', ep', ed', er, ed, ep, ev)
+  counted_done d' p' v' x y t ed' ep' ev' ex ey = fetch_counted s m h a f t ∙ rw (ey, ex, ev', ep', ed', er, ed, ep, ev)
 
   other_done : (p' : PpuStatus) (x : PageWord) (y : Answer) → counted_at a ≡ false
       → p' ≡ chosen_at p d.in_frame a → x ≡ chr_word_at (pattern_pages s p'.bg_set) a
       → y ≡ pick (ltb a 0x2000) (pattern_served r v d p' m.exram m.chr a (page_answer m (page_of x) a)) (page_answer m (page_of x) a)
       → ppu_fetch s m a ≡ outcome y (with_chr_pages (with_ppu s p') (pattern_pages s p'.bg_set))
   unfolding chr_answer
-  other_done p' x y t ep' ex ey = fetch-other s m h a f t ∙ rw (ey, ex, ep', er, ed, ep, ev)
+  other_done p' x y t ep' ex ey = fetch_other s m h a f t ∙ rw (ey, ex, ep', er, ed, ep, ev)
 
   -- Its answer is no refusal.
   answered : (y : Answer) (t : State) → ppu_fetch s m a ≡ outcome y t → is_refused y ≡ false

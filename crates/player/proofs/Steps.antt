@@ -120,14 +120,14 @@ module _ (trace : List ℕ) (all : Left) (m₀ : Mem) (log₀ : List ℕ) (at co
   unreadable why g = unreadable_by why g.fuel g.enough g.inside g.rest
 
   module _ (call : Call) (next : ℕ) (found : record_at trace at ≡ Record call next) where
-    stops-by : (why : Refusal) (t : State) (n : Mem) (fuel : ℕ) → length trace < fuel + at → at ≤ length trace → played_from fuel trace at count s m log ≡ all
+    stops_by : (why : Refusal) (t : State) (n : Mem) (fuel : ℕ) → length trace < fuel + at → at ≤ length trace → played_from fuel trace at count s m log ≡ all
         → called call s m ≡ after_of (outcome (Refused why) t) n → ended (Stopped at why) s m log ≡ all
     unfolding played_from
-    stops-by why t n zero e i r p = absurd (omega (arith, e, i))
-    stops-by why t n (suc k) e i r p = rw (found, p) at r
+    stops_by why t n zero e i r p = absurd (omega (arith, e, i))
+    stops_by why t n (suc k) e i r p = rw (found, p) at r
 
     pub stops : (why : Refusal) (t : State) (n : Mem) → Going trace all m₀ log₀ at count s m log → called call s m ≡ after_of (outcome (Refused why) t) n → ended (Stopped at why) s m log ≡ all
-    stops why t n g = stops-by why t n g.fuel g.enough g.inside g.rest
+    stops why t n g = stops_by why t n g.fuel g.enough g.inside g.rest
 
     goes_by : (a : Answer) (t : State) (n : Mem) (fuel : ℕ) → length trace < fuel + at → Going trace all m₀ log₀ at count s m log → played_from fuel trace at count s m log ≡ all
         → called call s m ≡ after_of (outcome a t) n → Given a → Going trace all m₀ log₀ next (count + 1) t n (logged log count a (interrupt_up t.irq))

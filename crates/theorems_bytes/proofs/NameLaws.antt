@@ -36,7 +36,7 @@ use Rattle.state.specs.Gate.{gate_mem}
 use Rattle.board.specs.CpuSide.{cpu_write}
 use Rattle.board_ppu.specs.Counted.{counted_irq, counted_split}
 use Rattle.board_ppu.specs.Fetch.{pattern_call, ppu_fetch}
-use Rattle.board_ppu.proofs.Made.{fetch-counted}
+use Rattle.board_ppu.proofs.Made.{fetch_counted}
 use Rattle.board_ppu.specs.Peeks.{chr_answer}
 use Rattle.theorems_promises.proofs.Promised.{gate_stays_open}
 use Rattle.theorems_bytes.specs.Names.{NameBytes, ServedBytes, selector_at, fill_answer, selector_byte, Fetched}
@@ -51,7 +51,7 @@ mirrored_low n = let e : n % 4 % 4 ≡ n % 4 = omega arith in rw e
 low_uncounted : (a : ℕ) → a < 0x2000 → counted_at a ≡ false
 low_uncounted a h = rw (lt-leb 0x2000 a h)
 
--- A fetch behind an open gate at a pattern address; at a counted address that the counter does not refuse, it is `fetch-counted`.
+-- A fetch behind an open gate at a pattern address; at a counted address that the counter does not refuse, it is `fetch_counted`.
 patterned : (s : State) (m : Mem) (a : ℕ) → gate_mem s m ≡ Open → a < 0x2000 → ppu_fetch s m a ≡ pattern_call s m a
 unfolding ppu_fetch counter_refused
 patterned s m a h l = rw (h, low_uncounted a l, lt-ltb a 0x2000 l)
@@ -60,10 +60,10 @@ pub served_bytes : ServedBytes
 unfolding counted_served split_byte pattern_call pattern_served direct pattern_offset ex_offset attribute_address attribute_shift chosen
 served_bytes =
     record {
-      split_name = λ s m h a c n f q. let e = fetch-counted s m h.opened a f c in rw (e, rw e at q, n);
-      split_attribute = λ s m h a c n f q. let e = fetch-counted s m h.opened a f c in rw (e, rw e at q, n) (ap Served (mirrored_low _));
+      split_name = λ s m h a c n f q. let e = fetch_counted s m h.opened a f c in rw (e, rw e at q, n);
+      split_attribute = λ s m h a c n f q. let e = fetch_counted s m h.opened a f c in rw (e, rw e at q, n) (ap Served (mirrored_low _));
       split_pattern = λ s m h a l q. rw (patterned s m a h.opened l, q);
-      attribute = λ s m h a c n f q u t. let e = fetch-counted s m h.opened a f c in rw (e, rw e at q, rw e at u, n, rw e at t);
+      attribute = λ s m h a c n f q u t. let e = fetch_counted s m h.opened a f c in rw (e, rw e at q, rw e at u, n, rw e at t);
       attribute_pattern = λ s m h a l q u t. rw (patterned s m a h.opened l, q, u, t);
     }
 
@@ -131,7 +131,7 @@ fetched : (t : State) (m : Mem) (pages : List PageWord) (v a : ℕ) → gate_mem
     → counted_at a ≡ true → t.vsplit.enabled ≡ false → attribute_use t.regs ≡ false → Fetched t a
     → (ppu_fetch t m a).answer ≡ selector_byte t m (selector_at v a) a
 fetched t m pages v a h l n p c off plain f =
-    rw (fetch-counted t m h a f c, counted_is _ _ _ _ _ _ _, split_off t a off, plain, n, p, page_shown pages m v (nametable_use t.regs) a l c, ← selector_is v a)
+    rw (fetch_counted t m h a f c, counted_is _ _ _ _ _ _ _, split_off t a off, plain, n, p, page_shown pages m v (nametable_use t.regs) a l c, ← selector_is v a)
     (shown t m a (selector_at v a) (rw selector_is (selector_small v (a / 1024))))
 
 -- What a write to $5105 leaves.

@@ -64,28 +64,28 @@ module _ (t : List ℕ) (at group : ℕ) (here : at < length t) (is : group ≡ 
 
   -- A group over others.
   module _ (groups low weight limit : ℕ) where
-    pub padded-group : group ≡ 0 → limited limit (grouped low weight (numeral (suc groups) at (drop at t))) ≡ Padded
+    pub padded_group : group ≡ 0 → limited limit (grouped low weight (numeral (suc groups) at (drop at t))) ≡ Padded
     unfolding limited grouped
-    padded-group h = rw (last_group groups (omega arith), h)
+    padded_group h = rw (last_group groups (omega arith), h)
 
-    pub top-group : (group ≡ 0 → ⊥) → group < 128 → low + weight * group ≤ limit
+    pub top_group : (group ≡ 0 → ⊥) → group < 128 → low + weight * group ≤ limit
         → limited limit (grouped low weight (numeral (suc groups) at (drop at t))) ≡ Sound (low + weight * group) (at + 1)
     unfolding limited grouped
-    top-group n h k = rw (last_group groups h, ne_eqb group 0 n, le-leb (low + weight * group) limit k)
+    top_group n h k = rw (last_group groups h, ne_eqb group 0 n, le-leb (low + weight * group) limit k)
 
   -- The last group that a number may have.
   module _ (low weight limit : ℕ) (n : group ≡ 0 → ⊥) where
-    pub above-group : limit < low + weight * group → limited limit (grouped low weight (numeral 1 at (drop at t))) ≡ Above
+    pub above_group : limit < low + weight * group → limited limit (grouped low weight (numeral 1 at (drop at t))) ≡ Above
     unfolding limited grouped numeral
-    above-group k =
+    above_group k =
         split (ltb group 128)
         (λ b. rw (last_group 0 (ltb-true group 128 b), ne_eqb group 0 n, lt-leb (low + weight * group) limit k))
         (λ b. rw (further_group 0 (ltb-false group 128 b)))
 
-    pub sound-group : limit < weight * 128 → low + weight * group ≤ limit → limited limit (grouped low weight (numeral 1 at (drop at t))) ≡ Sound (low + weight * group) (at + 1)
-    sound-group b k =
+    pub sound_group : limit < weight * 128 → low + weight * group ≤ limit → limited limit (grouped low weight (numeral 1 at (drop at t))) ≡ Sound (low + weight * group) (at + 1)
+    sound_group b k =
         split (ltb group 128)
-        (λ s. top-group 0 low weight limit n (ltb-true group 128 s) k)
+        (λ s. top_group 0 low weight limit n (ltb-true group 128 s) k)
         (λ s. absurd (omega (arith, mul-le-mul_left {m = 128} {n = group} weight (ltb-false group 128 s))))
 
 -- A byte's share of a number fits 32 bits, with room for what stands below it.

@@ -91,11 +91,11 @@ module _ (k : ℕ) (trace : List ℕ) (at n : ℕ) (s : State) (m : Mem) (log : 
   abbrev after : After
   after = called call s m
 
-  abbrev now-logged : List ℕ
-  now-logged = logged log n after.out.answer (interrupt_up after.out.state.irq)
+  abbrev now_logged : List ℕ
+  now_logged = logged log n after.out.answer (interrupt_up after.out.state.irq)
 
   abbrev on : Left
-  on = played_from k trace next (n + 1) after.out.state after.mem now-logged
+  on = played_from k trace next (n + 1) after.out.state after.mem now_logged
 
   goes_on : Given after.out.answer → played_from (suc k) trace at n s m log ≡ on
   unfolding played_from
@@ -104,7 +104,7 @@ module _ (k : ℕ) (trace : List ℕ) (at n : ℕ) (s : State) (m : Mem) (log : 
   printed_on : printed_from (suc k) trace at n on.log on.out.ending
       ≡ logged_line n (kind_of call) (get_or on.log (2 * n) 0) (get_or on.log (2 * n + 1) 0) ++ printed_from k trace next (n + 1) on.log on.out.ending
   unfolding printed_from
-  printed_on = rw (r, stops_later k trace next (n + 1) after.out.state after.mem now-logged at (record_advances trace at call next r).0)
+  printed_on = rw (r, stops_later k trace next (n + 1) after.out.state after.mem now_logged at (record_advances trace at call next r).0)
 
   lines_on : Given after.out.answer
       → lines_from (suc k) trace at n s m
@@ -115,7 +115,7 @@ module _ (k : ℕ) (trace : List ℕ) (at n : ℕ) (s : State) (m : Mem) (log : 
   line_on : Given after.out.answer → 2 * n + 1 < length log
       → logged_line n (kind_of call) (get_or on.log (2 * n) 0) (get_or on.log (2 * n + 1) 0) ≡ accepted_line n (kind_of call) after.out.answer (interrupt_up after.out.state.irq)
   line_on g h =
-      let kept = keeps_log k trace next (n + 1) after.out.state after.mem now-logged in
+      let kept = keeps_log k trace next (n + 1) after.out.state after.mem now_logged in
       rw (kept (2 * n) (omega arith), kept (2 * n + 1) (omega arith)) (line_is log n (kind_of call) after.out.answer (interrupt_up after.out.state.irq) g h)
 
   refused_here : (why : Refusal) → after.out.answer ≡ Refused why
@@ -158,7 +158,7 @@ on_record k ih trace at n s m log i h (Record call next) r =
     ∙ ap (λ (l : List ℕ). l ++ printed_from k trace next (n + 1) (on k trace at n s m log call next r).log (on k trace at n s m log call next r).out.ending)
     (line_on k trace at n s m log call next r g (omega (arith, o.0, o.1, i, h)))
     ∙ ap (λ (l : List ℕ). accepted_line n (kind_of call) c.out.answer (interrupt_up c.out.state.irq) ++ l)
-    (ih trace next (n + 1) c.out.state c.mem (now-logged k trace at n s m log call next r) (omega (arith, o.0, i)) (rw (logged_length log n c.out.answer (interrupt_up c.out.state.irq)) h))
+    (ih trace next (n + 1) c.out.state c.mem (now_logged k trace at n s m log call next r) (omega (arith, o.0, i)) (rw (logged_length log n c.out.answer (interrupt_up c.out.state.irq)) h))
     ∙ sym (lines_on k trace at n s m log call next r g))
 
 pub printed_is_lines : PrintedIsLines

@@ -1,10 +1,10 @@
--- The gate, refusal 7, then the two kinds of fetch (`fetch-counted`, `fetch-other`).
+-- The gate, refusal 7, then the two kinds of fetch (`fetch_counted`, `fetch_other`).
 use mathlib.Core.Path.{sym, ◌∙◌}
 use Rattle.state.proofs.GateLaws.{open_in_range}
 use Rattle.state.proofs.RangeLaws.{ranged}
 use Rattle.board_ppu.specs.Fetch.{ppu_fetch, pattern_pages}
 use Rattle.board_ppu.specs.Peeks.{chr_answer}
-use Rattle.board_ppu.proofs.Made.{fetch-counted, fetch-other}
+use Rattle.board_ppu.proofs.Made.{fetch_counted, fetch_other}
 use Rattle.board_ppu.proofs.fetches.ppu_fetch.Goals as goal
 
 pub returns-in-Shut : goal.returns-in-Shut
@@ -36,7 +36,7 @@ returns-then-counted c =
       c.count_fetch-after.ensures.1.0,
       c.count_fetch-after.ensures.1.1,
     )
-    (sym (fetch-counted _ _ (sym c.passed-gate.ensures ∙ c.in_default.is) _
+    (sym (fetch_counted _ _ (sym c.passed-gate.ensures ∙ c.in_default.is) _
     (sym c.counter_refused.ensures ∙ c.if-counter_refused.false)
     (sym c.counted.ensures ∙ c.if-counted.true)))
 
@@ -49,6 +49,6 @@ returns c =
       c.map_on_change-mapped.ensures,
       c.chosen_at-status.ensures,
     )
-    (sym (fetch-other _ _ (sym c.passed-gate.ensures ∙ c.in_default.is) _
+    (sym (fetch_other _ _ (sym c.passed-gate.ensures ∙ c.in_default.is) _
     (sym c.counter_refused.ensures ∙ c.if-counter_refused.false)
     (sym c.counted.ensures ∙ c.if-counted.false)))

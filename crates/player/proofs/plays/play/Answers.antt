@@ -11,8 +11,8 @@ use Rattle.board_ppu.specs.Fetch.{pattern_pages}
 use Rattle.board_ppu.specs.Peeks.{chr_answer}
 use Rattle.steps.proofs.Idle.{prg_left, rest_left, write_idle, write_prg, write_rest}
 use Rattle.board_ppu.proofs.Made.{pages_changed, pages_same}
-use Rattle.player.proofs.Arms.{going_ranged, clock-arm, reset-arm, read-stop, read-arm, register-arm, write-stop, write-arm}
-use Rattle.player.proofs.Arms.{fetch-stop, counted-arm, other_arm, ppu-write-arm}
+use Rattle.player.proofs.Arms.{going_ranged, clock_arm, reset_arm, read_stop, read_arm, register_arm, write_stop, write_arm}
+use Rattle.player.proofs.Arms.{fetch_stop, counted_arm, other_arm, ppu_write_arm}
 use Rattle.player.proofs.Steps.{nearer, ends, unreadable}
 use Rattle.player.proofs.plays.play.Goals as goal
 use Rattle.player.proofs.plays.play.Goals.{then-set_changed, else-set_changed}
@@ -25,11 +25,11 @@ pub loop-why-smaller-in-Clock : goal.loop-why-smaller-in-Clock
 loop-why-smaller-in-Clock c = nearer _ _ _ _ (sym c.record_at-found.ensures ∙ c.in-Record.is)
 
 pub loop-why-preserved-in-Clock : goal.loop-why-preserved-in-Clock
-loop-why-preserved-in-Clock c = clock-arm c.loop-why.invariant (sym c.record_at-found.ensures ∙ c.in-Record.is) c.clock-irq.result c.in-Clock.is c.clock-irq.ensures c.log_record.new.log c.log_record.ensures
+loop-why-preserved-in-Clock c = clock_arm c.loop-why.invariant (sym c.record_at-found.ensures ∙ c.in-Record.is) c.clock-irq.result c.in-Clock.is c.clock-irq.ensures c.log_record.new.log c.log_record.ensures
 
 -- A CPU read: of an audio register, and past the test for these.
 pub returns-then-audio_read : goal.returns-then-audio_read
-returns-then-audio_read c = read-stop c.loop-why.invariant (sym c.record_at-found.ensures ∙ c.in-Record.is) c.in-CpuRead.is (sym c.audio_read.ensures ∙ c.if-audio_read.true)
+returns-then-audio_read c = read_stop c.loop-why.invariant (sym c.record_at-found.ensures ∙ c.in-Record.is) c.in-CpuRead.is (sym c.audio_read.ensures ∙ c.if-audio_read.true)
 
 pub loop-why-smaller-in-CpuRead : goal.loop-why-smaller-in-CpuRead
 loop-why-smaller-in-CpuRead c = nearer _ _ _ _ (sym c.record_at-found.ensures ∙ c.in-Record.is)
@@ -37,19 +37,19 @@ loop-why-smaller-in-CpuRead c = nearer _ _ _ _ (sym c.record_at-found.ensures �
 pub loop-why-preserved-in-CpuRead : goal.loop-why-preserved-in-CpuRead
 unfolding cpu_answer
 loop-why-preserved-in-CpuRead c =
-    read-arm c.loop-why.invariant (sym c.record_at-found.ensures ∙ c.in-Record.is) c.read-answer.result c.irq_read-irq.result c.in-CpuRead.is (sym c.audio_read.ensures ∙ c.if-audio_read.false)
+    read_arm c.loop-why.invariant (sym c.record_at-found.ensures ∙ c.in-Record.is) c.read-answer.result c.irq_read-irq.result c.in-CpuRead.is (sym c.audio_read.ensures ∙ c.if-audio_read.false)
     c.read-answer.ensures c.irq_read-irq.ensures c.log_record-in-CpuRead.new.log c.log_record-in-CpuRead.ensures
 
 -- A CPU write: of an audio register; of none; of one that maps PRG; of any other.
 pub returns-then-audio_write : goal.returns-then-audio_write
-returns-then-audio_write c = write-stop c.loop-why.invariant (sym c.record_at-found.ensures ∙ c.in-Record.is) c.in-CpuWrite.is (sym c.audio_write.ensures ∙ c.if-audio_write.true)
+returns-then-audio_write c = write_stop c.loop-why.invariant (sym c.record_at-found.ensures ∙ c.in-Record.is) c.in-CpuWrite.is (sym c.audio_write.ensures ∙ c.if-audio_write.true)
 
 pub loop-why-smaller-then-not-is_within : goal.loop-why-smaller-then-not-is_within
 loop-why-smaller-then-not-is_within c = nearer _ _ _ _ (sym c.record_at-found.ensures ∙ c.in-Record.is)
 
 pub loop-why-preserved-then-not-is_within : goal.loop-why-preserved-then-not-is_within
 loop-why-preserved-then-not-is_within c =
-    write-arm c.loop-why.invariant (sym c.record_at-found.ensures ∙ c.in-Record.is) c.loop-why.t (mem_of c.args.prg.now c.store.new.chr c.store.new.ram c.store.new.ciram c.store.new.exram) c.in-CpuWrite.is (sym c.audio_write.ensures ∙ c.if-audio_write.false)
+    write_arm c.loop-why.invariant (sym c.record_at-found.ensures ∙ c.in-Record.is) c.loop-why.t (mem_of c.args.prg.now c.store.new.chr c.store.new.ram c.store.new.ciram c.store.new.exram) c.in-CpuWrite.is (sym c.audio_write.ensures ∙ c.if-audio_write.false)
     (write_idle c.in-CpuWrite.addr.0 (sym c.is_within.ensures ∙ c.if-not-is_within.true) c.loop-why.t c.in-CpuWrite.val)
     (c.store.ensures _) c.log_record-then-not-is_within.new.log c.log_record-then-not-is_within.ensures
 
@@ -64,7 +64,7 @@ loop-why-smaller-then-maps_prg c = nearer _ _ _ _ (sym c.record_at-found.ensures
 pub loop-why-preserved-then-maps_prg : goal.loop-why-preserved-then-maps_prg
 loop-why-preserved-then-maps_prg c =
     let s = c.loop-why.t in
-    write-arm c.loop-why.invariant (sym c.record_at-found.ensures ∙ c.in-Record.is) (prg_left s c.write-regs.result c.prg_banks_after-banks.result c.map_prg-pages.result) (mem_of c.args.prg.now c.store.new.chr c.store.new.ram c.store.new.ciram c.store.new.exram)
+    write_arm c.loop-why.invariant (sym c.record_at-found.ensures ∙ c.in-Record.is) (prg_left s c.write-regs.result c.prg_banks_after-banks.result c.map_prg-pages.result) (mem_of c.args.prg.now c.store.new.chr c.store.new.ram c.store.new.ciram c.store.new.exram)
     c.in-CpuWrite.is (sym c.audio_write.ensures ∙ c.if-audio_write.false)
     (write_prg s c.in-CpuWrite.addr.0 c.in-CpuWrite.val _ _ _ (sym c.maps_prg.ensures ∙ c.if-maps_prg.true) c.write-regs.ensures c.prg_banks_after-banks.ensures c.map_prg-pages.ensures)
     (c.store.ensures _) c.log_record-then-maps_prg.new.log c.log_record-then-maps_prg.ensures
@@ -75,7 +75,7 @@ loop-why-smaller-in-CpuWrite c = nearer _ _ _ _ (sym c.record_at-found.ensures �
 pub loop-why-preserved-in-CpuWrite : goal.loop-why-preserved-in-CpuWrite
 loop-why-preserved-in-CpuWrite c =
     let s = c.loop-why.t in
-    write-arm c.loop-why.invariant (sym c.record_at-found.ensures ∙ c.in-Record.is)
+    write_arm c.loop-why.invariant (sym c.record_at-found.ensures ∙ c.in-Record.is)
     (rest_left s c.write-regs.result c.split_after-vsplit.result c.irq_after-irq.result c.ppu_after-ppu.result c.mirroring_after-mirroring.result
     c.chr_banks_after-banks.result c.chr_pages_after-pages.result c.exram_word-at_5c00.result) (mem_of c.args.prg.now c.store.new.chr c.store.new.ram c.store.new.ciram c.store.new.exram)
     c.in-CpuWrite.is (sym c.audio_write.ensures ∙ c.if-audio_write.false)
@@ -90,12 +90,12 @@ loop-why-smaller-in-PpuRegister c = nearer _ _ _ _ (sym c.record_at-found.ensure
 
 pub loop-why-preserved-in-PpuRegister : goal.loop-why-preserved-in-PpuRegister
 loop-why-preserved-in-PpuRegister c =
-    register-arm c.loop-why.invariant (sym c.record_at-found.ensures ∙ c.in-Record.is) c.status_after-ppu.result c.detector_after-irq.result c.in-PpuRegister.is
+    register_arm c.loop-why.invariant (sym c.record_at-found.ensures ∙ c.in-Record.is) c.status_after-ppu.result c.detector_after-irq.result c.in-PpuRegister.is
     c.status_after-ppu.ensures c.detector_after-irq.ensures c.log_record-in-PpuRegister.new.log c.log_record-in-PpuRegister.ensures
 
 -- A PPU fetch that counts: past the line counter's limit, and within it.
 pub returns-then-counter_refused : goal.returns-then-counter_refused
-returns-then-counter_refused c = fetch-stop c.loop-why.invariant (sym c.record_at-found.ensures ∙ c.in-Record.is) c.in-PpuFetch.is (sym c.counter_refused.ensures ∙ c.if-counter_refused.true)
+returns-then-counter_refused c = fetch_stop c.loop-why.invariant (sym c.record_at-found.ensures ∙ c.in-Record.is) c.in-PpuFetch.is (sym c.counter_refused.ensures ∙ c.if-counter_refused.true)
 
 pub count_fetch-groups-requires : goal.count_fetch-groups-requires
 count_fetch-groups-requires c = let k = going_ranged c.loop-why.invariant in (k.detector, k.tiles)
@@ -107,7 +107,7 @@ pub loop-why-preserved-then-counted : goal.loop-why-preserved-then-counted
 unfolding chr_answer
 loop-why-preserved-then-counted c =
     let n = c.count_fetch-groups in
-    counted-arm c.loop-why.invariant (sym c.record_at-found.ensures ∙ c.in-Record.is) n.result.irq n.result.ppu n.result.vsplit c.counted_answer-answer.result c.in-PpuFetch.is
+    counted_arm c.loop-why.invariant (sym c.record_at-found.ensures ∙ c.in-Record.is) n.result.irq n.result.ppu n.result.vsplit c.counted_answer-answer.result c.in-PpuFetch.is
     (sym c.counter_refused.ensures ∙ c.if-counter_refused.false) (sym c.counted.ensures ∙ c.if-counted.true)
     n.ensures.0 n.ensures.1.0 n.ensures.1.1 c.counted_answer-answer.ensures c.log_record-then-counted.new.log c.log_record-then-counted.ensures
 
@@ -134,7 +134,7 @@ loop-why-smaller-in-Reset c = nearer _ _ _ _ (sym c.record_at-found.ensures ∙ 
 
 pub loop-why-preserved-in-Reset : goal.loop-why-preserved-in-Reset
 loop-why-preserved-in-Reset c =
-    reset-arm c.loop-why.invariant (sym c.record_at-found.ensures ∙ c.in-Record.is) c.reset-regs.result c.in-Reset.is c.reset-regs.ensures c.log_record-in-Reset.new.log c.log_record-in-Reset.ensures
+    reset_arm c.loop-why.invariant (sym c.record_at-found.ensures ∙ c.in-Record.is) c.reset-regs.result c.in-Reset.is c.reset-regs.ensures c.log_record-in-Reset.new.log c.log_record-in-Reset.ensures
 
 -- A PPU write.
 pub loop-why-smaller : goal.loop-why-smaller
@@ -143,7 +143,7 @@ loop-why-smaller c = nearer _ _ _ _ (sym c.record_at-found.ensures ∙ c.in-Reco
 pub loop-why-preserved : goal.loop-why-preserved
 loop-why-preserved c =
     let l = c.store-in-PpuWrite.new in
-    ppu-write-arm c.loop-why.invariant (sym c.record_at-found.ensures ∙ c.in-Record.is) (mem_of c.args.prg.now l.chr l.ram l.ciram l.exram)
+    ppu_write_arm c.loop-why.invariant (sym c.record_at-found.ensures ∙ c.in-Record.is) (mem_of c.args.prg.now l.chr l.ram l.ciram l.exram)
     c.in-PpuWrite.is (c.store-in-PpuWrite.ensures _ ∙ stored_low _ _ _ _) c.log_record-in-PpuWrite.new.log c.log_record-in-PpuWrite.ensures
 
 -- The trace's end, and a record that cannot be read.

@@ -3,7 +3,7 @@
 use mathlib.Core.Path.{sym}
 use native.Mathlib.Omega.{arith}
 use Rattle.trace.specs.Numbers.{limited, grouped}
-use Rattle.trace.proofs.NumberLaws.{no_group, padded-group, top-group, further_over}
+use Rattle.trace.proofs.NumberLaws.{no_group, padded_group, top_group, further_over}
 use Rattle.trace.proofs.numbers.second_at.Goals as goal
 
 pub returns-then-trace-at : goal.returns-then-trace-at
@@ -11,10 +11,10 @@ unfolding limited grouped
 returns-then-trace-at c = rw (no_group 1 _ _ c.if-trace-at.true)
 
 pub returns-then-second-eq0 : goal.returns-then-second-eq0
-returns-then-second-eq0 c = sym (padded-group _ _ _ c.if-trace-at.false c.wide-second.ensures 1 _ 128 65535 c.if-second-eq0.true)
+returns-then-second-eq0 c = sym (padded_group _ _ _ c.if-trace-at.false c.wide-second.ensures 1 _ 128 65535 c.if-second-eq0.true)
 
 pub returns-then-second-lt128 : goal.returns-then-second-lt128
-returns-then-second-lt128 c = sym (top-group _ _ _ c.if-trace-at.false c.wide-second.ensures 1 _ 128 65535 c.if-second-eq0.false c.if-second-lt128.true (omega arith))
+returns-then-second-lt128 c = sym (top_group _ _ _ c.if-trace-at.false c.wide-second.ensures 1 _ 128 65535 c.if-second-eq0.false c.if-second-lt128.true (omega arith))
 
 pub returns : goal.returns
 returns c = rw (further_over _ _ _ c.if-trace-at.false c.wide-second.ensures 1 _ 128 c.if-second-lt128.false) c.last_at.ensures
