@@ -45,7 +45,7 @@ use Rattle.board_ppu.specs.Peeks.{chr_answer}
 use Rattle.theorems_scanlines.specs.Calls.Played.{at_load, taken}
 use Rattle.theorems_promises.specs.Loading.{good_prg, good_chr, good_ram}
 use Rattle.theorems_promises.proofs.Loadings.{load_refusals}
-use Rattle.theorems_histories.specs.Boards.{Board, Made, says, leaves, board_after, number, number_in}
+use Rattle.theorems_histories.specs.Boards.{Made, says, leaves, board_after, number, number_in}
 use Rattle.theorems_histories.specs.Histories.{Load, first, Reached}
 use Rattle.theorems_histories.specs.Shorthand.{in_turn}
 use Rattle.theorems_cases.specs.Edges.{lent, start, load_accepted, accepted, seen, comes, edges, shut_out_cases, Edges, ShutOut, onto, CasesAreHistories}

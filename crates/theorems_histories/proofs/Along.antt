@@ -15,7 +15,6 @@ use Rattle.state.specs.Gate.{gate_mem}
 use Rattle.state.specs.Lengths.{prg_taken, chr_taken, ram_taken}
 use Rattle.board.specs.declared.Outcome.{Outcome}
 use Rattle.board.specs.Loads.{zero_state, recorded, load_call, loaded_state}
-use Rattle.trace.specs.declared.Call.TheVariants.{Clock, CpuRead, CpuWrite, PpuRegister, PpuFetch, Reset, PpuWrite}
 use Rattle.theorems_scanlines.specs.Run.{run}
 use Rattle.theorems_scanlines.specs.Calls.{history_of}
 use Rattle.theorems_scanlines.specs.Calls.Played.{at_load, taken}

@@ -1,7 +1,7 @@
 -- Behind an open gate, and where a call meets no refusal, the call is what its definition says there; and the number that a call gives behind
 -- an open gate.
 use Prim.Native.Nat.{ℕ, suc}
-use mathlib.Core.Bool.{Bool, true, false, not}
+use mathlib.Core.Bool.{Bool, true, false}
 use mathlib.Core.Path.{◌≡◌, refl, sym, ◌∙◌, ap}
 use native.Mathlib.Omega.{arith}
 use lib.Dec.{ltb}
@@ -11,7 +11,6 @@ use Rattle.memory.proofs.Tests.{split}
 use Rattle.answers.specs.declared.Answer.{Answer}
 use Rattle.answers.specs.declared.Answer.TheVariants.{Nothing}
 use Rattle.answers.specs.declared.Refusal.{Refusal}
-use Rattle.answers.specs.declared.Refusal.TheVariants.{State as StateBroken}
 use Rattle.answers.specs.Letters.{value_of}
 use Rattle.answers.specs.Numbers.{number_of}
 use Rattle.answers.specs.Refused.{is_refused}
@@ -24,7 +23,6 @@ use Rattle.state.specs.declared.gate.Gate.{Gate}
 use Rattle.state.specs.declared.gate.Gate.TheVariants.{Open, Shut}
 use Rattle.state.specs.declared.State.{State}
 use Rattle.state.specs.Gate.{gate_mem}
-use Rattle.state.specs.Ranges.{in_range}
 use Rattle.cpu.specs.Reads.{audio_read}
 use Rattle.cpu.specs.Writes.{audio_write}
 use Rattle.board.specs.declared.InterruptAnswer.{InterruptAnswer}

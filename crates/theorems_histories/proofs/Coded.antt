@@ -1,6 +1,6 @@
 -- The code is the definitions' board: each entry point by its contract's equation.
 use Prim.Native.Nat.{ℕ}
-use mathlib.Core.Bool.{Bool, true, false}
+use mathlib.Core.Bool.{true, false}
 use mathlib.Core.List.{List, []}
 use mathlib.Core.Path.{◌≡◌, refl, sym, ◌∙◌, ap, subst}
 use Rattle.std.specs.Borrow.{Bor, MutBor}
@@ -30,7 +30,7 @@ use Rattle.calls.specs.Called.{called}
 use Rattle.calls.specs.Lent.{BufferThen, MemoryThen, FourThen}
 use Rattle.theorems_histories.specs.Boards.{Board, Made, says, leaves, lent_as_recorded}
 use Rattle.theorems_histories.specs.Boards.Made.{call, peek, ppu_peek_lem, sprite_peek_lem, mirroring_asked, interrupt_asked, cpu_page, ppu_page}
-use Rattle.theorems_histories.specs.Code.{Step, board, gives, looks, Allowed, Happens, meant, CodeIsTheBoard, EveryCallTakesAll}
+use Rattle.theorems_histories.specs.Code.{Step, board, gives, Allowed, Happens, meant, CodeIsTheBoard, EveryCallTakesAll}
 use Rattle.theorems_histories.specs.Code.Happens.{any, clocks, reads, writes, registers, fetches, resets, stores, peeks, ppu_peeks, sprite_peeks, mirrorings, interrupts_up, cpu_pages, ppu_pages}
 
 -- What holds of all that a contract allows holds of a step that it allows.

@@ -4,14 +4,9 @@ use Rattle.std.specs.Prelude.{◌≡◌, Bool, List}
 use Rattle.memory.specs.Bytes.{Mem}
 use Rattle.answers.specs.declared.Answer.TheVariants.{Nothing}
 use Rattle.registers.specs.declared.Mirroring.{Mirroring}
-use Rattle.scanline.specs.declared.Detector.{Detector}
 use Rattle.board.specs.Loads.{load_call}
-use Rattle.trace.specs.declared.Call.TheVariants.{Clock, CpuRead, CpuWrite, PpuRegister, PpuFetch, Reset, PpuWrite}
-use Rattle.theorems_scanlines.specs.Calls.{Event}
-use Rattle.theorems_scanlines.specs.Calls.Event.{clock, fetch, cpu_read, cpu_write, ppu_register, other}
 use Rattle.theorems_scanlines.specs.Calls.{Played}
 use Rattle.theorems_histories.specs.Boards.{Board, Made, says, leaves, number}
-use Rattle.theorems_histories.specs.Boards.Made.{call, peek, ppu_peek_lem, sprite_peek_lem, mirroring_asked, interrupt_asked, cpu_page, ppu_page}
 
 -- A load that is accepted. "Load also takes whether CHR is writable and the header's mirroring (five values)."
 pub record Load : Type 0 where

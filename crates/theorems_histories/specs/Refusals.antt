@@ -1,7 +1,7 @@
 -- Demand 1 of every call on every board, reached or not: "A refusal has one number from 01, is given exactly when 01 says, returns the state as handed
 -- in and writes no byte". Load's own refusals, 1 to 3, are `LoadRefusals` of crate `theorems_promises`.
 -- Assumes nothing.
-use Rattle.std.specs.Prelude.{ℕ, ◌≡◌, Bool, not, length}
+use Rattle.std.specs.Prelude.{ℕ, ◌≡◌, not}
 use Rattle.memory.specs.Tests.{pick}
 use Rattle.state.specs.Ranges.{in_range}
 use Rattle.theorems_histories.specs.Boards.{lent_as_recorded, Board, Made, says, leaves, number}

@@ -2,7 +2,7 @@
 -- game is served at the (n - s)th next line and no sooner". Here s is 0 and n is 2: one line and two fetches of the next, and then the line
 -- that the game is served at. The calls are accepted from every load, so `BoardDemand3` speaks of something; and there are loads.
 -- Assumes nothing.
-use Rattle.std.specs.Prelude.{ℕ, ◌≡◌, true, false, List, [], ◌∷◌, ◌++◌, replicate}
+use Rattle.std.specs.Prelude.{◌≡◌, true, false, List, [], ◌∷◌, ◌++◌, replicate}
 use Rattle.memory.specs.Bytes.{Mem, mem_of}
 use Rattle.answers.specs.declared.Answer.TheVariants.{Nothing}
 use Rattle.registers.specs.declared.Mirroring.TheVariants.{Horizontal}
