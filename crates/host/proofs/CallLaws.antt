@@ -1,6 +1,6 @@
 -- Calls over lent words, one by one: what the steps of a call leave is what the board's call on the state leaves.
 use Prim.Native.Nat.{ℕ, ◌≤◌}
-use mathlib.Core.Bool.{Bool, true, false, not}
+use mathlib.Core.Bool.{Bool, true, false}
 use mathlib.Core.List.{List}
 use mathlib.Core.Path.{◌≡◌, refl, sym, ap, ◌∙◌}
 use lib.ListN.{length}
@@ -46,7 +46,7 @@ use Rattle.host.proofs.HostLaws.{refused_left, refused_memory, taken_left, taken
 
 -- A state out of range, of a call that refuses it with 5.
 pub broken_left : (w : List ℕ) (f : State → Outcome) (o : Bool) (n : ℕ)
-    → o ≡ in_range (state_of w) → not o ≡ true → (in_range (state_of w) ≡ false → (f (state_of w)).answer ≡ Refused StateBroken) → n ≡ answer_plain (Refused StateBroken) → left_words n w ≡ on_words w f
+    → o ≡ in_range (state_of w) → o ≡ false → (in_range (state_of w) ≡ false → (f (state_of w)).answer ≡ Refused StateBroken) → n ≡ answer_plain (Refused StateBroken) → left_words n w ≡ on_words w f
 broken_left w f o n e t ef en = refused_left w f StateBroken n (ef (out_of_range_said w o e t)) en
 
 pub clock_broken : (s : State) → in_range s ≡ false → (clock_call s).answer ≡ Refused StateBroken

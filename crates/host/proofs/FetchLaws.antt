@@ -1,10 +1,9 @@
 -- The PPU fetch by the groups that it changes: what it leaves in the words is what the board's call leaves.
 use Prim.Native.Nat.{ℕ, ◌+◌, ◌≤◌}
-use mathlib.Core.Bool.{Bool, true, false, not, ◌&&◌}
+use mathlib.Core.Bool.{Bool, true, false, ◌&&◌}
 use mathlib.Core.List.{List}
 use mathlib.Core.Path.{◌≡◌, refl, sym, ap, ◌∙◌}
 use native.Mathlib.Omega.{arith}
-use borrow.Author.Tests.{not-false, not-true}
 use lib.Dec.{ltb}
 use lib.ListN.{length, take, drop, length-map}
 use Rattle.memory.specs.declared.PageWord.{PageWord}
@@ -92,15 +91,15 @@ unfolding chosen_at
 tiles_kept p q p' framed a e e' = rw (e', e) (pick_keeps (KeepsTiles q) (ltb a 0x2000) (chosen_tiles q framed) (same_tiles q))
 
 -- The pages of a pattern fetch: as they were where the set is the same, else mapped; and as many.
-pages_same : (s : State) (b a g : Bool) → b ≡ s.ppu.bg_set → g ≡ set_changed b a → not g ≡ true → pattern_pages s a ≡ s.chr_pages
+pages_same : (s : State) (b a g : Bool) → b ≡ s.ppu.bg_set → g ≡ set_changed b a → g ≡ false → pattern_pages s a ≡ s.chr_pages
 unfolding pattern_pages
-pages_same s b a g eb eg t = rw (← eb, ← eg, not-true g t)
+pages_same s b a g eb eg t = rw (← eb, ← eg, t)
 
 pages_mapped : (s : State) (b a g : Bool) (z : Lengths) (r : Regs) (banks : List ℕ) (shown mapped : List PageWord)
-    → b ≡ s.ppu.bg_set → g ≡ set_changed b a → not g ≡ false → z ≡ s.lengths → r ≡ s.regs → banks ≡ s.chr_banks → shown ≡ s.chr_pages
+    → b ≡ s.ppu.bg_set → g ≡ set_changed b a → g ≡ true → z ≡ s.lengths → r ≡ s.regs → banks ≡ s.chr_banks → shown ≡ s.chr_pages
     → mapped ≡ chr_mapped z.chr z.chr_writable r banks a shown → mapped ≡ pattern_pages s a
 unfolding pattern_pages
-pages_mapped s b a g z r banks shown mapped eb eg t ez er ek es em = em ∙ rw (← eb, ← eg, not-false g t, ez, er, ek, es)
+pages_mapped s b a g z r banks shown mapped eb eg t ez er ek es em = em ∙ rw (← eb, ← eg, t, ez, er, ek, es)
 
 pages_as_many : (s : State) (a : Bool) → length (pattern_pages s a) ≡ length s.chr_pages
 unfolding pattern_pages chr_mapped
@@ -122,11 +121,11 @@ module _ (w : List ℕ) (e : length w ≡ 144) where
 
   -- Mapping on a change: the words without one, and with one.
   module _ (h : in_range (state_of w) ≡ true) (b a g : Bool) (eb : b ≡ (state_of w).ppu.bg_set) (eg : g ≡ set_changed b a) where
-    pub unmapped_words : not g ≡ true → w ≡ words_of (with_chr_pages (state_of w) (pattern_pages (state_of w) a))
+    pub unmapped_words : g ≡ false → w ≡ words_of (with_chr_pages (state_of w) (pattern_pages (state_of w) a))
     unmapped_words t =
         sym (words_back w e h) ∙ ap (λ (l : List PageWord). words_of (with_chr_pages (state_of w) l)) (sym (pages_same (state_of w) b a g eb eg t))
 
-    pub mapped_words : (z : Lengths) (r : Regs) (banks : List ℕ) (shown mapped : List PageWord) (v : List ℕ) → not g ≡ false
+    pub mapped_words : (z : Lengths) (r : Regs) (banks : List ℕ) (shown mapped : List PageWord) (v : List ℕ) → g ≡ true
         → z ≡ lengths_of w → r ≡ regs_of w → banks ≡ chr_banks_of w → shown ≡ pages_of (chr_numbers w) → mapped ≡ chr_mapped z.chr z.chr_writable r banks a shown
         → v ≡ chr_page_words w mapped → v ≡ words_of (with_chr_pages (state_of w) (pattern_pages (state_of w) a))
     mapped_words z r banks shown mapped v t ez er ek es em ev =

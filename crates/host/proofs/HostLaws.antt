@@ -1,9 +1,8 @@
 -- A call over lent words, put together from what its steps give: a refusal leaves the words, an accepted call leaves the words of the state after it.
 use Prim.Native.Nat.{ℕ}
-use mathlib.Core.Bool.{Bool, true, false, not}
+use mathlib.Core.Bool.{Bool, true, false}
 use mathlib.Core.List.{List}
-use mathlib.Core.Path.{◌≡◌, refl, sym, ap, ◌∙◌}
-use borrow.Author.Tests.{not-false, not-true}
+use mathlib.Core.Path.{◌≡◌, sym, ap, ◌∙◌}
 use lib.ListN.{length}
 use Rattle.memory.specs.Bytes.{Mem}
 use Rattle.answers.specs.declared.Answer.{Answer}
@@ -58,11 +57,11 @@ pub load_left : (m : Mem) (b : Bool) (s k : Mirroring) (o : Outcome) (v : List �
 load_left m b s k o v n eo es ev en = rw (en, ev, eo, es)
 
 -- What the tests say where they hold: the state is in range, and the words are its words.
-pub in_range_said : (w : List ℕ) (o : Bool) → o ≡ in_range (state_of w) → not o ≡ false → in_range (state_of w) ≡ true
-in_range_said w o e t = sym e ∙ not-false o t
+pub in_range_said : (w : List ℕ) (o : Bool) → o ≡ in_range (state_of w) → o ≡ true → in_range (state_of w) ≡ true
+in_range_said w o e t = sym e ∙ t
 
-pub out_of_range_said : (w : List ℕ) (o : Bool) → o ≡ in_range (state_of w) → not o ≡ true → in_range (state_of w) ≡ false
-out_of_range_said w o e t = sym e ∙ not-true o t
+pub out_of_range_said : (w : List ℕ) (o : Bool) → o ≡ in_range (state_of w) → o ≡ false → in_range (state_of w) ≡ false
+out_of_range_said w o e t = sym e ∙ t
 
 pub open_said : (w : List ℕ) (m : Mem) (k : Gate) → k ≡ gate_mem (state_of w) m → k ≡ Open → gate_mem (state_of w) m ≡ Open
 open_said w m k e t = sym e ∙ t

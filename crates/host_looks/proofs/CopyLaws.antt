@@ -1,10 +1,10 @@
 -- A page copied byte by byte: so far, and at the end.
 use Prim.Native.Nat.{ℕ, ◌+◌, ◌<◌, ◌≤◌}
-use mathlib.Core.Bool.{Bool, true, false, not, ◌&&◌}
+use mathlib.Core.Bool.{Bool, true, false, ◌&&◌}
 use mathlib.Core.List.{List}
 use mathlib.Core.Path.{◌≡◌, refl, sym, ◌∙◌}
 use native.Mathlib.Omega.{arith}
-use borrow.Author.Tests.{not-false, not-true, eqb-true}
+use borrow.Author.Tests.{eqb-true}
 use lib.Dec.{eqb}
 use lib.ListN.{length, get_or, set, length-set}
 use Rattle.memory.proofs.Tests.{and_left, and_right}
@@ -20,9 +20,8 @@ pub record Copying (part start out : List ℕ) (i : ℕ) : Type 0 where
 abbrev pub fits : List ℕ → List ℕ → Bool
 fits part start = eqb (length part) 1024 && eqb (length start) 1024
 
-pub copy_first : (part start : List ℕ) → not (fits part start) ≡ false → Copying part start start 0
-copy_first part start e =
-    let both = not-false (fits part start) e in
+pub copy_first : (part start : List ℕ) → fits part start ≡ true → Copying part start start 0
+copy_first part start both =
     let p : length part ≡ 1024 = eqb-true _ _ (and_left (eqb (length part) 1024) (eqb (length start) 1024) both) in
     let s : length start ≡ 1024 = eqb-true _ _ (and_right (eqb (length part) 1024) (eqb (length start) 1024) both) in
     record { long = p; kept = refl; so_far = map_first _ part start (s ∙ sym p) }
@@ -34,10 +33,10 @@ copy_next part start out i x c h e =
 copy_last : (part start out : List ℕ) (i : ℕ) → Copying part start out i → 1024 ≤ i → out ≡ part
 copy_last part start out i c h = map_last _ part out i c.so_far (omega (arith, c.long)) ∙ map_same part
 
-pub copy_done : (part start out : List ℕ) (i : ℕ) → not (fits part start) ≡ false → Copying part start out i → 1024 ≤ i → copied_of 1024 out ≡ copied part start
+pub copy_done : (part start out : List ℕ) (i : ℕ) → fits part start ≡ true → Copying part start out i → 1024 ≤ i → copied_of 1024 out ≡ copied part start
 unfolding copied
-copy_done part start out i e c h = rw (not-false (fits part start) e, copy_last part start out i c h)
+copy_done part start out i e c h = rw (e, copy_last part start out i c h)
 
-pub copy_not : (part start : List ℕ) → not (fits part start) ≡ true → copied_of 0 start ≡ copied part start
+pub copy_not : (part start : List ℕ) → fits part start ≡ false → copied_of 0 start ≡ copied part start
 unfolding copied
-copy_not part start e = rw (not-true (fits part start) e)
+copy_not part start e = rw e
