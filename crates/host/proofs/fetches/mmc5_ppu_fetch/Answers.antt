@@ -5,7 +5,7 @@ use Rattle.memory.specs.Bytes.{mem_of}
 use Rattle.scanline.proofs.RangeLaws.{uncounted}
 use Rattle.state.specs.declared.PpuStatus.{PpuStatus}
 use Rattle.board.specs.declared.Outcome.{Outcome}
-use Rattle.board_ppu.proofs.Made.{fetch-refused}
+use Rattle.board_ppu.proofs.Made.{fetch_refused}
 use Rattle.theorems_promises.proofs.Promised.{who_is_refused}
 use Rattle.host_state.specs.Words.{state_of}
 use Rattle.host.proofs.HostLaws.{refused_left, shut_said, open_said, open_in_range, status_said}
@@ -29,7 +29,7 @@ returns-then-counter_refused c =
     let at-limit =
     counter_said (state_of w) _ _ true _ c.detector_of-irq.ensures c.counter_refused.ensures c.if-counter_refused.true
     in
-    refused_left w _ _ _ (ap (λ (o : Outcome). o.answer) (fetch-refused (state_of w) m passed _ at-limit)) c.plain-then-counter_refused.ensures
+    refused_left w _ _ _ (ap (λ (o : Outcome). o.answer) (fetch_refused (state_of w) m passed _ at-limit)) c.plain-then-counter_refused.ensures
 
 pub count_fetch-counted-requires : goal.count_fetch-counted-requires
 count_fetch-counted-requires c =
