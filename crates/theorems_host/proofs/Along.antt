@@ -22,7 +22,7 @@ use Rattle.host_answers.specs.Answers.{answer_plain, answer_with_interrupt}
 use Rattle.host.specs.Hosted.{LeftWords, left_words, leaving_words}
 use Rattle.host_looks.specs.Pages.{entry_number, entry_on}
 use Rattle.theorems_scanlines.specs.Calls.Played.{at_load, taken as Going-on}
-use Rattle.theorems_histories.specs.Boards.{Board, Made, leaves, number, number_in}
+use Rattle.theorems_histories.specs.Boards.{Board, Made, leaves, number_in}
 use Rattle.theorems_histories.specs.Histories.{Load, first, Reached}
 use Rattle.theorems_histories.specs.Boards.Made.{call, peek, ppu_peek_lem, sprite_peek_lem, mirroring_asked, interrupt_asked, cpu_page, ppu_page}
 use Rattle.theorems_histories.specs.Replays.{board_in, replay_of}

@@ -2,18 +2,16 @@
 -- where a refusal gives the state back.
 use mathlib.Core.Bool.{true}
 use mathlib.Core.List.{List}
-use mathlib.Core.Path.{◌≡◌, refl, ap, ◌∙◌}
+use mathlib.Core.Path.{◌≡◌, refl, ap}
 use Prim.Native.Nat.{ℕ}
 use lib.ListN.{length}
 use Rattle.memory.specs.declared.Page.{Page}
 use Rattle.memory.specs.Bytes.{Mem}
 use Rattle.memory.proofs.Tests.{split}
-use Rattle.answers.specs.declared.Answer.{Answer}
 use Rattle.answers.specs.declared.Answer.TheVariants.{Refused}
 use Rattle.answers.specs.declared.Refusal.{Refusal}
 use Rattle.answers.specs.Refused.{if_refused, is_refused}
 use Rattle.answers.proofs.Cases.{if_refused_lem}
-use Rattle.state.specs.declared.gate.Gate.{Gate}
 use Rattle.state.specs.declared.gate.Gate.TheVariants.{Open}
 use Rattle.state.specs.declared.State.{State}
 use Rattle.state.specs.Gate.{gate_mem}
@@ -25,7 +23,7 @@ use Rattle.player.specs.Replay.{replayed}
 use Rattle.host_state.specs.Fits.{Fits}
 use Rattle.host_state.specs.Words.{state_of, words_of}
 use Rattle.host_state.proofs.Forths.{words_forth}
-use Rattle.host_answers.specs.Answers.{answer_plain, answer_with_interrupt}
+use Rattle.host_answers.specs.Answers.{answer_plain}
 use Rattle.host.specs.Hosted.{LeftWords, left_words, leaving_words, on_words, LeftMemory, left_memory, leaving_memory, on_memory}
 use Rattle.host_looks.specs.Looks.{look_on}
 use Rattle.host_looks.specs.Pages.{entry_number, entry_on, copied, copy_on}

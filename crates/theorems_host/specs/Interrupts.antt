@@ -1,7 +1,7 @@
 -- The interrupt that a host hears of is that of its history. 00, demand 3: "The history alone tells the scanline interrupt"; "The interrupt is up
 -- exactly when the flag is set and the last write to $5204 had bit 7 set" (`Up`, crate `theorems_scanlines`, specs/Told.antt).
 -- Assumes nothing but in `bit`: there that the call's numbers are as its types say (`InRange`; `Hosted` has it of those before it), and that the buffers hold bytes.
-use Rattle.std.specs.Prelude.{ℕ, ◌+◌, ◌/◌, ◌%◌, List, [], ◌∷◌, ◌↔◌, ◌≡◌}
+use Rattle.std.specs.Prelude.{ℕ, ◌+◌, ◌/◌, ◌%◌, List, ◌∷◌, ◌↔◌, ◌≡◌}
 use Rattle.trace.specs.declared.Call.{Call}
 use Rattle.trace.specs.Promise.{InRange}
 use Rattle.theorems_scanlines.specs.Told.{Up}

@@ -7,7 +7,7 @@ use Rattle.host_looks.specs.Pages.{copied_of}
 use Rattle.host_replay.specs.Replays.{left_replay}
 use Rattle.theorems_settles.specs.OwnHosts.{host_state_in_range, host_state_passed, host_state_put_regs, host_state_put_region, host_state_put_split, host_state_put_detector, host_state_put_tiles, host_state_put_set, host_state_put_status, host_state_number_of_mirroring, host_state_put_mirroring, host_state_put_prg_banks, host_state_put_chr_banks, host_state_put_exram_word, host_state_put_lengths, host_state_sized, host_state_within_limits, host_state_mirroring_numbered, host_state_lengths_of, host_state_regs_of, host_state_split_of, host_state_detector_of, host_state_status_of, host_state_mirroring_of, host_state_prg_banks_of, host_state_chr_banks_of, host_state_arrays_sized, host_state_prg_ok, host_state_chr_ok, host_state_prg_word, host_state_chr_word, host_state_prg_table, host_state_chr_table, host_state_put_prg_table, host_state_put_chr_table, host_state_state_of, host_state_put_state, host_answers_interrupt, host_answers_mirroring, host_answers_plain, host_answers_with_interrupt, host_clock, host_cpu_write, host_ppu_fetch, host_load, host_ppu_write, host_cpu_read, host_ppu_register, host_reset, host_looks_cpu_entry, host_looks_cpu_page, host_looks_ppu_entry, host_looks_ppu_page, host_looks_cpu_peek, host_looks_ppu_peek, host_looks_sprite_peek, host_looks_interrupt, host_looks_mirroring, host_replay_replay}
 use Rattle.calls.specs.Lent.{ChangedThen, mem_left}
-use Rattle.theorems_settles.specs.Settled.{Result, Settles, beside}
+use Rattle.theorems_settles.specs.Settled.{Result, Settles}
 
 -- A call's first parameter is the array of words: a look at it, where it is lent to be changed, and what comes behind it.
 abbrev pub words_left : {X : Type 0} → ChangedThen X → List ℕ

@@ -4,7 +4,7 @@ use Rattle.std.specs.Prelude.{[]}
 use Rattle.theorems_settles.specs.OwnLeaves.{memory_byte, memory_put, memory_peek, memory_store, memory_prg_table_ok, memory_chr_table_ok, memory_prg_place, memory_prg_places, memory_chr_word_ok, memory_prg_window, memory_chr_window, memory_word_of, memory_page_of, memory_place_of, answers_number_of, answers_letter_of, answers_has_value, answers_value_of, registers_new, registers_reset, registers_attribute_use, registers_nametable_use, registers_unlocked, registers_write, registers_mirroring_after, registers_ranges_ok, banks_chr_number, banks_map_chr, banks_wants_background, banks_selector_of, banks_map_names, banks_map_prg, banks_exram_page, scanline_new, scanline_seen, scanline_counter_refused, scanline_darkened, scanline_vector_read, scanline_status_read, scanline_set_target, scanline_set_enabled, scanline_status, scanline_interrupt_up, scanline_ranges_ok, scanline_clock, scanline_of, scanline_ticked, scanline_clock_record, scanline_counted, scanline_attribute_address, scanline_name_fetch, scanline_sprite_fetch, scanline_column, scanline_prefetched, scanline_first_tiles, scanline_tiles_ok, scanline_tiles_raised, scanline_tiles_after}
 use Rattle.theorems_settles.specs.OwnStates.{split_new, split_set_control, split_set_scroll, split_set_bank, split_active_lem, split_ranges_ok, split_attribute_place, split_attribute_bits, split_mirrored, split_pattern_offset, split_scroll_of, split_moved_lem, state_passed, state_in_range, state_same_lengths, state_prg_taken, state_chr_taken, state_ram_taken, state_lengths_ok, cpu_choose, cpu_ppu_after, cpu_set_changed, cpu_split_after, cpu_irq_after, cpu_is_within, cpu_prg_banks_after, cpu_chr_banks_after, cpu_status_after, cpu_detector_after, cpu_page_answer, cpu_register_or, cpu_irq_read, cpu_audio_read, cpu_maps_prg, cpu_maps_chr, cpu_chr_pages_after, cpu_latch, cpu_prg_word_at, cpu_audio_write, ppu_ppu_seen, ppu_split_seen, ppu_direct_byte, ppu_ex_offset, ppu_counted_served, ppu_pattern_served, ppu_sprite_byte}
 use Rattle.calls.specs.Lent.{mem_left}
-use Rattle.theorems_settles.specs.Settled.{Result, Settles, beside}
+use Rattle.theorems_settles.specs.Settled.{Result, Settles}
 
 pub record Memory : Type 0 where
   pub byte : Result memory_byte.Learnt
