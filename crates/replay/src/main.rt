@@ -1,5 +1,5 @@
 // The program `replay`: plays the trace on standard input over 01's cartridge, and prints a line for each record. The lines are those of
-// `transcript` (crate transcript, specs/Cartridge.antt); what is said of standard input and output is the C library's.
+// `transcript` (crate transcript, specs/Cartridge.antt); what is said of standard input and output is std's.
 // `stdin` and `stdout` are 01's worked example.
 #![tactic(auto)]
 
