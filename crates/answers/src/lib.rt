@@ -6,22 +6,23 @@ ghost use Rattle.answers.specs.Letters.{letter_of, has_value, value_of};
 ghost use Rattle.answers.specs.Numbers.{number_of};
 ghost use Rattle.answers.specs.Promise.{Numbered};
 
-#[derive(Clone, Copy)]
+#[derive(Clone, Copy, Debug, PartialEq, Eq)]
 pub enum Refusal {
-    Prg,
-    Chr,
-    Ram,
-    Buffers,
-    State,
-    Audio,
-    Counter,
-    Kind,
-    Number,
-    Length,
+    Prg = 1,
+    Chr = 2,
+    Ram = 3,
+    Buffers = 4,
+    State = 5,
+    Audio = 6,
+    Counter = 7,
+    Kind = 9,
+    Number = 10,
+    Length = 11,
 }
 
-// 01, "Trace": none, a register's value, a value served in the page's place, a page's byte, or a blank page; or a refusal.
-#[derive(Clone, Copy)]
+// 01, "Trace": none, a register's value, a value served in the page's place, a page's byte, or a blank page; or a refusal. One enum and no `Result`,
+// since 01 asks for "an enum answer", where `!` is a letter among the others.
+#[derive(Clone, Copy, Debug, PartialEq, Eq)]
 pub enum Answer {
     Nothing,
     Register(u8),
@@ -35,18 +36,7 @@ pub enum Answer {
 pub fn number_of(refusal: Refusal) -> u8
     ensures { result ≡ number_of refusal }
 {
-    match refusal {
-        Refusal::Prg => 1,
-        Refusal::Chr => 2,
-        Refusal::Ram => 3,
-        Refusal::Buffers => 4,
-        Refusal::State => 5,
-        Refusal::Audio => 6,
-        Refusal::Counter => 7,
-        Refusal::Kind => 9,
-        Refusal::Number => 10,
-        Refusal::Length => 11,
-    }
+    refusal as u8
 }
 
 // The letter that an answer is printed as.
@@ -67,14 +57,7 @@ pub fn letter_of(answer: Answer) -> u8
 pub fn has_value(answer: Answer) -> bool
     ensures { result ≡ has_value answer }
 {
-    match answer {
-        Answer::Nothing => false,
-        Answer::Register(_) => true,
-        Answer::Served(_) => true,
-        Answer::Page(_) => true,
-        Answer::Blank => false,
-        Answer::Refused(_) => true,
-    }
+    !matches!(answer, Answer::Nothing | Answer::Blank)
 }
 
 // The value, a refusal's number; 0 where there is none.
@@ -82,12 +65,9 @@ pub fn value_of(answer: Answer) -> u8
     ensures { result ≡ value_of answer }
 {
     match answer {
-        Answer::Nothing => 0,
-        Answer::Register(v) => v,
-        Answer::Served(v) => v,
-        Answer::Page(v) => v,
-        Answer::Blank => 0,
-        Answer::Refused(r) => number_of(r),
+        Answer::Register(val) | Answer::Served(val) | Answer::Page(val) => val,
+        Answer::Refused(refusal) => number_of(refusal),
+        Answer::Nothing | Answer::Blank => 0,
     }
 }
 

@@ -2,9 +2,9 @@
 use Prim.Native.Nat.{ℕ, zero, suc, ◌+◌, ◌<◌, ◌≤◌}
 use mathlib.Core.Bool.{Bool, true}
 use mathlib.Core.List.{List, [], ◌∷◌}
-use mathlib.Core.Path.{◌≡◌, refl, ◌∙◌}
+use mathlib.Core.Path.{◌≡◌, refl, sym, ◌∙◌}
 use native.Mathlib.Numerals.{add-one}
-use native.Mathlib.Nat.{zero-add}
+use native.Mathlib.Nat.{zero-add, add-zero, add-suc, add_assoc}
 use native.Mathlib.Omega.{arith}
 use borrow.Author.Tests.{eqb-true, eqb-false}
 use lib.Dec.{eqb}
@@ -18,14 +18,28 @@ pub placed_none : {A : Type 0} (l : List A) (at : ℕ) (f : ℕ → A) → l ≡
 unfolding placed
 placed_none l at f = refl
 
-pub placed_next : {A : Type 0} (l m : List A) (at : ℕ) (f : ℕ → A) (k : ℕ) (x : A) → m ≡ placed l at f k → x ≡ f k → set m (at + k) x ≡ placed l at f (k + 1)
+-- One entry more.
+pub placed_more : {A : Type 0} (l : List A) (at : ℕ) (f : ℕ → A) (k : ℕ) → placed l at f (k + 1) ≡ set (placed l at f k) (at + k) (f k)
 unfolding placed
-placed_next l m at f k x e h = rw (add-one k, e, h)
+placed_more l at f k = rw (add-one k)
+
+-- The same from the table's first place on.
+pub placed_more_first : {A : Type 0} (l : List A) (f : ℕ → A) (k : ℕ) → placed l 0 f (k + 1) ≡ set (placed l 0 f k) k (f k)
+placed_more_first l f k = placed_more l 0 f k ∙ rw (zero-add k)
+
+pub placed_next_first : {A : Type 0} (l m : List A) (f : ℕ → A) (k : ℕ) (x : A) → m ≡ placed l 0 f k → x ≡ f k → set m k x ≡ placed l 0 f (k + 1)
+placed_next_first l m f k x e h = rw (e, h) (sym (placed_more_first l f k))
 
 pub length_placed : {A : Type 0} (l : List A) (at : ℕ) (f : ℕ → A) (n : ℕ) → length (placed l at f n) ≡ length l
 unfolding placed
 length_placed l at f zero = refl
 length_placed l at f (suc n) = rw (length-set (placed l at f n) (at + n) (f n)) (length_placed l at f n)
+
+-- Entries written anew after those that are.
+pub placed_on : {A : Type 0} (l : List A) (at : ℕ) (f g : ℕ → A) (n k : ℕ) → ((j : ℕ) → j < k → g j ≡ f (n + j)) → placed (placed l at f n) (at + n) g k ≡ placed l at f (n + k)
+unfolding placed
+placed_on l at f g n zero h = rw add-zero
+placed_on l at f g n (suc k) h = rw (placed_on l at f g n k (λ j few. h j (omega arith)), h k (omega arith), add_assoc at n k, add-suc n k)
 
 -- What is read at a new entry, of those from the table's first place on.
 pub entry_placed : {A : Type 0} (l : List A) (f : ℕ → A) (n i : ℕ) (d : A) → i < n → n ≤ length l → get_or (placed l 0 f n) i d ≡ f i
@@ -49,7 +63,3 @@ pub all_placed : {A : Type 0} (t : A → Bool) (l : List A) (at : ℕ) (f : ℕ 
 unfolding placed
 all_placed t l at f zero e h = e
 all_placed t l at f (suc n) e h = all_set t (placed l at f n) (at + n) (f n) (all_placed t l at f n e h) (h n)
-
--- The same from the table's first place on.
-pub placed_next_first : {A : Type 0} (l m : List A) (f : ℕ → A) (k : ℕ) (x : A) → m ≡ placed l 0 f k → x ≡ f k → set m k x ≡ placed l 0 f (k + 1)
-placed_next_first l m f k x e h = rw (zero-add k) at (placed_next l m 0 f k x e h)

@@ -18,8 +18,8 @@ use Rattle.registers.specs.Registers.{unlocked}
 use Rattle.banks.specs.Placed.{placed}
 use Rattle.banks.specs.Prg.{pair_first, pair_second, quarter, rom, prg_values, prg_value_pages, page_from6000, prg_mapped}
 use Rattle.banks.specs.Chr.{window_pages, window_register, set_start, chr_number}
-use Rattle.banks.proofs.PlacedLaws.{placed_none}
-use Rattle.banks.proofs.BankLaws.{window_next, one_page}
+use Rattle.banks.proofs.PlacedLaws.{placed_none, placed_on}
+use Rattle.banks.proofs.BankLaws.{one_page}
 
 pub prg_values_is : (mode : ℕ) (b : List ℕ)
     → prg_values mode b
@@ -40,12 +40,25 @@ windows_mapped prg ram writable values pages zero = pages
 windows_mapped prg ram writable values pages (suc n) =
     placed (windows_mapped prg ram writable values pages n) (24 + 8 * n) (λ (k : ℕ). get_or (prg_value_pages prg ram writable (get_or values n 0)) k (word 0)) 8
 
+-- One window more: its eight pages.
+window_next : (prg ram : ℕ) (writable : Bool) (values : List ℕ) (pages : List PageWord) (i : ℕ)
+    → placed (placed pages 24 (page_from6000 prg ram writable values) (8 * i)) (24 + 8 * i) (λ (j : ℕ). get_or (prg_value_pages prg ram writable (get_or values i 0)) j (word 0)) 8
+    ≡ placed pages 24 (page_from6000 prg ram writable values) (8 * (i + 1))
+window_next prg ram writable values pages i =
+    let more : 8 * (i + 1) ≡ 8 * i + 8 = omega arith in
+    rw more
+    (placed_on pages 24 (page_from6000 prg ram writable values) _ (8 * i) 8
+    (λ j few.
+    let window : (8 * i + j) / 8 ≡ i = omega arith in
+    let inside : (8 * i + j) % 8 ≡ j = omega arith in
+    rw (window, inside)))
+
 windows_are : (prg ram : ℕ) (writable : Bool) (values : List ℕ) (pages : List PageWord) (n : ℕ)
     → windows_mapped prg ram writable values pages n ≡ placed pages 24 (page_from6000 prg ram writable values) (8 * n)
 unfolding windows_mapped placed
 windows_are prg ram writable values pages zero = placed_none pages 24 (page_from6000 prg ram writable values)
 windows_are prg ram writable values pages (suc n) =
-    rw (add-zero (24 + 8 * n), ← add-one n) (window_next prg ram writable values pages _ n _ (windows_are prg ram writable values pages n) refl)
+    rw (windows_are prg ram writable values pages n, ← add-one n) (window_next prg ram writable values pages n)
 
 pub prg_mapped_is : (prg ram : ℕ) (g : Regs) (b : List ℕ) (pages : List PageWord)
     → prg_mapped prg ram g b pages ≡ windows_mapped prg ram (unlocked g) (prg_values g.prg_mode b) pages 5

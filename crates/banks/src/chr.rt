@@ -1,7 +1,5 @@
-// CHR banks: the eight pattern pages, from one of two sets of registers, and which set.
+// CHR banks: the eight pattern pages, from one of two sets of registers, and which set. A mode is a number, as the state has it: 01 gives it a range.
 ghost use Rattle.std.specs.Prelude.{◌≡◌, ◌%◌, ◌<◌};
-ghost use Rattle.std.specs.Int.Bits.{bit_or};
-ghost use Rattle.memory.specs.Tests.{pick};
 ghost use Rattle.banks.specs.Chr.{window_pages, window_register, chr_number, chr_mapped, background};
 
 use memory::{PageWord, Src};
@@ -9,6 +7,7 @@ use registers::Regs;
 use state::Lengths;
 
 // How many pages a window of the mode has: 8k, 4k, 2k, 1k.
+#[tactic(auto, unfolding(crate::specs::Chr::window_pages))]
 fn window_pages(mode: u8) -> u32
     ensures { result ≡ window_pages mode }
 {
@@ -45,6 +44,7 @@ fn window_pages(mode: u8) -> u32
 //             +-------+-------+-------+-------+-------+-------+-------+-------+
 //
 // The register, in its set, by which the page at place k of the eight goes: the last of its window.
+#[tactic(auto, unfolding(crate::specs::Chr::window_pages))]
 fn register_at(mode: u8, k: usize) -> usize
     requires { k < 8 }
     ensures { result ≡ window_register (window_pages mode) k }
@@ -58,8 +58,8 @@ fn register_at(mode: u8, k: usize) -> usize
 }
 
 // The page's place in its window.
+#[tactic(auto, unfolding(crate::specs::Chr::window_pages))]
 fn place_in(mode: u8, k: usize) -> u32
-    requires { k < 8 }
     ensures { result ≡ k % window_pages mode }
 {
     match mode {
@@ -70,50 +70,34 @@ fn place_in(mode: u8, k: usize) -> u32
     }
 }
 
-// $5130's bits above the register's.
-fn with_hi(bank: u8, hi: u16) -> u16
-    ensures { result ≡ bit_or bank hi }
-{
-    bank as u16 | hi
-}
-
 // The number of the CHR page that a set shows at place k of the eight.
+#[tactic(auto, using(crate::proofs::BankLaws::register_inside, crate::proofs::BankLaws::size_most, crate::proofs::BankLaws::place_inside, crate::proofs::BankLaws::number_fits, std::proofs::lemmas::Nat::widths), unfolding(crate::specs::Chr::chr_number, crate::specs::Chr::window_pages))]
 pub fn chr_number(regs: Regs, banks: [u8; 16], background: bool, k: usize) -> u32
     requires { k < 8 }
     ensures { result ≡ chr_number regs banks background k }
 {
     let mode = regs.chr_mode;
-    let at = if_background(background) + register_at(mode, k);
-    let bank = with_hi(banks[at], regs.chr_hi);
+    let first = if background { 8 } else { 0 };
+    let bank = banks[first + register_at(mode, k)] as u16 | regs.chr_hi;
     bank as u32 * window_pages(mode) + place_in(mode, k)
 }
 
-// Where the set's registers begin.
-fn if_background(background: bool) -> usize
-    ensures { result ≡ pick background 8 0 }
-{
-    if background { 8 } else { 0 }
-}
-
 // The table with the eight pattern pages mapped.
+#[tactic(auto, using(crate::proofs::PlacedLaws::placed_none, crate::proofs::PlacedLaws::placed_more_first), unfolding(crate::specs::Chr::chr_mapped))]
 pub fn map_chr(
     lengths: Lengths,
     regs: Regs,
     banks: [u8; 16],
     background: bool,
-    pages: [PageWord; 16],
+    mut pages: [PageWord; 16],
 ) -> [PageWord; 16]
     ensures { result ≡ chr_mapped lengths.chr lengths.chr_writable regs banks background pages }
 {
-    let mut next = pages;
-    let mut k: usize = 0;
-    while k < 8 {
+    for k in 0..8 {
         let number = chr_number(regs, banks, background, k);
-        let word = memory::windows::chr_window(Src::Chr, lengths.chr, number, lengths.chr_writable);
-        next[k] = word;
-        k += 1;
+        pages[k] = memory::windows::chr_window(Src::Chr, lengths.chr, number, lengths.chr_writable);
     }
-    next
+    pages
 }
 
 // Which set a pattern fetch wants: the background's, or the sprites'.

@@ -1,4 +1,4 @@
-// PRG banks: the five windows from $6000 on, and ExRAM's page at $5C00.
+// PRG banks: the five windows from $6000 on, and ExRAM's page at $5C00. A mode is a number, as the state has it: 01 gives it a range.
 ghost use Rattle.std.specs.Prelude.{◌≡◌, ◌%◌, ◌<◌};
 ghost use Rattle.banks.specs.Prg.{pair_first, rom, prg_values, prg_value_pages, prg_mapped, exram_page};
 
@@ -32,6 +32,7 @@ fn rom_of(value: u8) -> u8
 //            +-------+-------+-------+-------+-------+
 //
 // The value that each window shows, bit 7 set where it shows ROM.
+#[tactic(auto, unfolding(crate::specs::Prg::prg_values))]
 fn values(mode: u8, banks: [u8; 5]) -> [u8; 5]
     ensures { result ≡ prg_values mode banks }
 {
@@ -53,6 +54,7 @@ fn values(mode: u8, banks: [u8; 5]) -> [u8; 5]
 }
 
 // The eight pages that a value shows.
+#[tactic(auto, unfolding(crate::specs::Prg::prg_value_pages))]
 fn value_pages(prg_len: u32, ram_len: u32, unlocked: bool, value: u8) -> [PageWord; 8]
     requires { (prg_len % 1024 ≡ 0) × (ram_len % 1024 ≡ 0) }
     ensures { result ≡ prg_value_pages prg_len ram_len unlocked value }
@@ -65,38 +67,30 @@ fn value_pages(prg_len: u32, ram_len: u32, unlocked: bool, value: u8) -> [PageWo
 }
 
 // The table with the five windows mapped.
+#[tactic(auto, using(crate::proofs::PlacedLaws::placed_none, crate::proofs::BankLaws::page_more), unfolding(crate::specs::Prg::prg_mapped))]
 pub fn map_prg(
     lengths: Lengths,
     regs: Regs,
     banks: [u8; 5],
-    pages: [PageWord; 64],
+    mut pages: [PageWord; 64],
 ) -> [PageWord; 64]
     requires { (lengths.prg % 1024 ≡ 0) × (lengths.ram % 1024 ≡ 0) }
     ensures { result ≡ prg_mapped lengths.prg lengths.ram regs banks pages }
 {
     let unlocked = registers::unlocked(regs);
-    let mode = regs.prg_mode;
-    let chosen = values(mode, banks);
-    let mut next = pages;
-    let mut i: usize = 0;
-    while i < 5 {
-        let value = chosen[i];
-        let words = value_pages(lengths.prg, lengths.ram, unlocked, value);
+    for (i, value) in values(regs.prg_mode, banks).iter().enumerate() {
         let at = 24 + 8 * i;
-        next[at] = words[0];
-        next[at + 1] = words[1];
-        next[at + 2] = words[2];
-        next[at + 3] = words[3];
-        next[at + 4] = words[4];
-        next[at + 5] = words[5];
-        next[at + 6] = words[6];
-        next[at + 7] = words[7];
-        i += 1;
+        let words = value_pages(lengths.prg, lengths.ram, unlocked, *value);
+        // `copy_from_slice` was tried: a fifth more instructions for the function.
+        for (j, word) in words.iter().enumerate() {
+            pages[at + j] = *word;
+        }
     }
-    next
+    pages
 }
 
 // The page at $5C00.
+#[tactic(auto, unfolding(crate::specs::Prg::exram_page, memory::specs::PageWords::word_number))]
 pub fn exram_page(mode: u8) -> PageWord
     ensures { result ≡ exram_page mode }
 {

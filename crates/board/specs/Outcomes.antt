@@ -1,10 +1,10 @@
 -- What a call gives back, and what a refusal gives back. 01: "Any other refusal returns the state given and writes nothing".
+use Rattle.std.specs.Prelude.{Ok, Err}
 use Rattle.memory.specs.Bytes.{Mem}
 use Rattle.answers.specs.declared.Answer.{Answer}
 use Rattle.answers.specs.declared.Answer.TheVariants.{Refused}
 use Rattle.answers.specs.declared.Refusal.{Refusal}
-use Rattle.state.specs.declared.gate.Gate.{Gate}
-use Rattle.state.specs.declared.gate.Gate.TheVariants.{Open, Shut}
+use Rattle.state.specs.Gate.{Gate}
 use Rattle.state.specs.declared.State.{State}
 use Rattle.board.specs.declared.Outcome.{Outcome}
 
@@ -24,5 +24,5 @@ after_of o m = record { out = o; mem = m }
 
 -- What stands behind the gate where it is open, or what its refusal gives where it is shut.
 abbrev pub behind : {A : Type 0} → Gate → (Refusal → A) → A → A
-behind Open f x = x
-behind (Shut r) f x = f r
+behind (Ok u) f x = x
+behind (Err r) f x = f r

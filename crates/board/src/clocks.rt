@@ -2,24 +2,21 @@
 ghost use Rattle.std.specs.Prelude.{◌≡◌};
 ghost use Rattle.board.specs.StateCalls.{clock_call};
 
-use crate::{Outcome, refuse};
-use answers::{Answer, Refusal};
+use crate::{Outcome, asked, refuse};
+use answers::Answer;
 use state::State;
 
 // One CPU clock.
+#[tactic(auto, unfolding(crate::specs::StateCalls::state_asked, crate::specs::StateCalls::clock_call))]
 pub fn clock(s: State) -> Outcome
     ensures { result ≡ clock_call s }
 {
-    let ok = state::ranges::in_range(s);
-    if !ok {
-        return refuse(s, Refusal::State);
+    if let Err(refusal) = asked(s) {
+        return refuse(s, refusal);
     }
-    let before = s.irq;
-    let after = scanline::clock(before);
-    let mut t = s;
-    t.irq = after;
+    let irq = scanline::clock(s.irq);
     Outcome {
         answer: Answer::Nothing,
-        state: t,
+        state: State { irq, ..s },
     }
 }

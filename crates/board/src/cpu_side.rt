@@ -1,6 +1,6 @@
 // CPU read, peek and write.
 ghost use Rattle.std.specs.Prelude.{◌≡◌, true};
-ghost use Rattle.memory.specs.Bytes.{mem_of};
+ghost use Rattle.memory.specs.Bytes.{mem_in, mem_of};
 ghost use Rattle.state.specs.Lengths.{lengths_ok};
 ghost use Rattle.cpu.specs.Reads.{cpu_answer};
 ghost use Rattle.cpu.specs.Writes.{register_written};
@@ -9,29 +9,26 @@ ghost use Rattle.board.specs.CpuSide.{cpu_read, cpu_peek, cpu_write};
 
 use crate::{Outcome, refuse};
 use answers::{Answer, Refusal};
-use memory::CpuAddr;
-use state::gate::Gate;
+use memory::{CpuAddr, Lent};
 use state::{Screen, State};
 use steps::register_writes;
 
 // What a read or a peek answers.
-fn answer_at(
-    s: State,
-    prg: &[u8],
-    chr: &[u8],
-    ram: &[u8],
-    ciram: &[u8],
-    exram: &[u8],
-    addr: CpuAddr,
-) -> Answer
-    ensures { result ≡ cpu_answer s (mem_of prg.now chr.now ram.now ciram.now exram.now) addr.0 }
+#[tactic(auto, unfolding(cpu::specs::Reads::cpu_answer))]
+fn answer_at(s: State, lent: Lent<'_>, addr: CpuAddr) -> Answer
+    ensures { result ≡ cpu_answer s (mem_in lent.entry) addr.0 }
 {
     let pages = s.prg_pages;
     let word = cpu::writes::prg_word_at(pages, addr);
-    let prg_banks = s.prg_banks;
-    let chr_banks = s.chr_banks;
     steps::cpu_side::read(
-        s.regs, s.vsplit, s.irq, prg_banks, chr_banks, word, prg, chr, ram, ciram, exram, addr,
+        s.regs,
+        s.vsplit,
+        s.irq,
+        s.prg_banks,
+        s.chr_banks,
+        word,
+        lent,
+        addr,
     )
 }
 
@@ -40,53 +37,53 @@ fn register_written(s: State, addr: CpuAddr, val: u8) -> State
     requires { lengths_ok s.lengths ≡ true }
     ensures { result ≡ register_written s addr.0 val }
 {
-    let mut t = s;
     if !cpu::groups::is_within(0x5100, 0x5206, addr) {
-        return t;
+        return s;
     }
-    let lengths = s.lengths;
     if cpu::writes::maps_prg(addr) {
-        let banks = s.prg_banks;
-        let pages = s.prg_pages;
-        let w = register_writes::write_prg(lengths, s.regs, banks, pages, addr, val);
-        let regs = w.regs;
+        let w = register_writes::write_prg(s.lengths, s.regs, s.prg_banks, s.prg_pages, addr, val);
         let prg_banks = w.banks;
         let prg_pages = w.pages;
-        t.regs = regs;
-        t.prg_banks = prg_banks;
-        t.prg_pages = prg_pages;
-        return t;
+        return State {
+            regs: w.regs,
+            prg_banks,
+            prg_pages,
+            ..s
+        };
     }
-    let old_screen = s.screen;
-    let mirroring = old_screen.mirroring;
-    let banks = s.chr_banks;
-    let pages = s.chr_pages;
-    let exram = s.prg_pages[23];
     let w = register_writes::write_other(
-        lengths, s.regs, s.vsplit, s.irq, s.ppu, mirroring, banks, pages, exram, addr, val,
+        s.lengths,
+        s.regs,
+        s.vsplit,
+        s.irq,
+        s.ppu,
+        s.screen.mirroring,
+        s.chr_banks,
+        s.chr_pages,
+        s.prg_pages[23],
+        addr,
+        val,
     );
-    let regs = w.regs;
-    let vsplit = w.vsplit;
-    let irq = w.irq;
-    let ppu = w.ppu;
-    let mirrored = w.mirroring;
-    let screen = Screen {
-        mirroring: mirrored,
-    };
     let chr_banks = w.banks;
     let chr_pages = w.pages;
-    let at_5c00 = w.exram;
-    t.regs = regs;
-    t.vsplit = vsplit;
-    t.irq = irq;
-    t.ppu = ppu;
-    t.screen = screen;
-    t.chr_banks = chr_banks;
-    t.chr_pages = chr_pages;
-    t.prg_pages[23] = at_5c00;
-    t
+    let mut prg_pages = s.prg_pages;
+    prg_pages[23] = w.exram;
+    State {
+        regs: w.regs,
+        vsplit: w.vsplit,
+        irq: w.irq,
+        ppu: w.ppu,
+        screen: Screen {
+            mirroring: w.mirroring,
+        },
+        chr_banks,
+        chr_pages,
+        prg_pages,
+        ..s
+    }
 }
 
+#[tactic(auto, unfolding(crate::specs::CpuSide::cpu_read))]
 pub fn cpu_read(
     s: State,
     prg: &[u8],
@@ -99,19 +96,28 @@ pub fn cpu_read(
     ensures { result ≡ cpu_read s (mem_of prg.now chr.now ram.now ciram.now exram.now) addr.0 }
 {
     let gate = state::gate::passed(s, prg.len(), chr.len(), ram.len(), ciram.len(), exram.len());
-    if let Gate::Shut(refusal) = gate {
+    if let Err(refusal) = gate {
         return refuse(s, refusal);
     }
     if cpu::reads::audio_read(addr) {
         return refuse(s, Refusal::Audio);
     }
-    let answer = answer_at(s, prg, chr, ram, ciram, exram, addr);
+    let lent = Lent {
+        prg,
+        chr,
+        ram,
+        ciram,
+        exram,
+    };
+    let answer = answer_at(s, lent, addr);
     let irq = cpu::reads::irq_read(s.irq, addr);
-    let mut t = s;
-    t.irq = irq;
-    Outcome { answer, state: t }
+    Outcome {
+        answer,
+        state: State { irq, ..s },
+    }
 }
 
+#[tactic(auto, unfolding(crate::specs::CpuSide::cpu_peek))]
 pub fn cpu_peek(
     s: State,
     prg: &[u8],
@@ -124,15 +130,23 @@ pub fn cpu_peek(
     ensures { result ≡ cpu_peek s (mem_of prg.now chr.now ram.now ciram.now exram.now) addr.0 }
 {
     let gate = state::gate::passed(s, prg.len(), chr.len(), ram.len(), ciram.len(), exram.len());
-    if let Gate::Shut(refusal) = gate {
+    if let Err(refusal) = gate {
         return Answer::Refused(refusal);
     }
     if cpu::reads::audio_read(addr) {
         return Answer::Refused(Refusal::Audio);
     }
-    answer_at(s, prg, chr, ram, ciram, exram, addr)
+    let lent = Lent {
+        prg,
+        chr,
+        ram,
+        ciram,
+        exram,
+    };
+    answer_at(s, lent, addr)
 }
 
+#[tactic(auto, unfolding(crate::specs::CpuSide::cpu_write))]
 pub fn cpu_write(
     s: State,
     prg: &[u8],
@@ -147,14 +161,13 @@ pub fn cpu_write(
         ≡ cpu_write s (mem_of prg.now chr.old ram.old ciram.old exram.old) addr.0 val }
 {
     let gate = state::gate::passed(s, prg.len(), chr.len(), ram.len(), ciram.len(), exram.len());
-    if let Gate::Shut(refusal) = gate {
+    if let Err(refusal) = gate {
         return refuse(s, refusal);
     }
     if cpu::writes::audio_write(addr) {
         return refuse(s, Refusal::Audio);
     }
-    let table = s.prg_pages;
-    let word = cpu::writes::prg_word_at(table, addr);
+    let word = cpu::writes::prg_word_at(s.prg_pages, addr);
     // First the bytes: no register maps the page that registers are written at.
     steps::cpu_side::store(
         chr,

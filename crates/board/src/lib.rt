@@ -4,9 +4,9 @@
 
 ghost use Rattle.std.specs.Prelude.{◌≡◌};
 ghost use Rattle.board.specs.Outcomes.{refused};
+ghost use Rattle.board.specs.StateCalls.{state_asked};
 
 use answers::{Answer, Refusal};
-use registers::Mirroring;
 use state::State;
 
 pub mod clocks;
@@ -22,19 +22,15 @@ pub struct Outcome {
     pub state: State,
 }
 
-// What `mirroring` tells.
-#[derive(Clone, Copy)]
-pub enum MirroringAnswer {
-    Is(Mirroring),
-    Refused(Refusal),
-}
-
-// What `interrupt_up` tells.
-#[derive(Clone, Copy)]
-pub enum InterruptAnswer {
-    Up,
-    Down,
-    Refused(Refusal),
+// What a call on the state alone asks: refusal 5 where a range is broken.
+#[tactic(auto, unfolding(crate::specs::StateCalls::state_asked))]
+fn asked(s: State) -> Result<(), Refusal>
+    ensures { result ≡ state_asked s }
+{
+    if !state::ranges::in_range(s) {
+        return Err(Refusal::State);
+    }
+    Ok(())
 }
 
 // A refusal gives the state back as it was handed in.

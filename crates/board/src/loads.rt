@@ -22,39 +22,11 @@ fn zero() -> State
     ensures { result ≡ zero_state }
 {
     State {
-        lengths: Lengths {
-            loaded: false,
-            prg: 0,
-            chr: 0,
-            ram: 0,
-            ciram: 0,
-            exram: 0,
-            chr_writable: false,
-        },
-        regs: Regs {
-            prg_mode: 0,
-            chr_mode: 0,
-            protect_a: 0,
-            protect_b: 0,
-            exram_mode: 0,
-            exram_chosen: false,
-            nametables: 0,
-            fill_tile: 0,
-            fill_attr: 0,
-            chr_hi: 0,
-            multiplicand: 0,
-            multiplier: 0,
-        },
+        lengths: Lengths::default(),
+        regs: Regs::default(),
         vsplit: split::control::new(),
         irq: scanline::new(),
-        ppu: PpuStatus {
-            tile_number: 0,
-            tile_cache: 0,
-            sprite8x16: false,
-            rendering: false,
-            bg_set: false,
-            bg_written: false,
-        },
+        ppu: PpuStatus::default(),
         screen: Screen {
             mirroring: Mirroring::Horizontal,
         },
@@ -66,6 +38,7 @@ fn zero() -> State
 }
 
 // The state after load: $5117 shows the last bank, and everything is mapped.
+#[tactic(auto, unfolding(crate::specs::Loads::loaded_state))]
 fn loaded(lengths: Lengths, mirroring: Mirroring) -> State
     requires { lengths_ok lengths ≡ true }
     ensures { result ≡ loaded_state lengths mirroring }
@@ -84,14 +57,7 @@ fn loaded(lengths: Lengths, mirroring: Mirroring) -> State
         regs,
         vsplit: split::control::new(),
         irq: scanline::new(),
-        ppu: PpuStatus {
-            tile_number: 0,
-            tile_cache: 0,
-            sprite8x16: false,
-            rendering: false,
-            bg_set: false,
-            bg_written: false,
-        },
+        ppu: PpuStatus::default(),
         screen: Screen { mirroring },
         prg_banks,
         chr_banks,
@@ -109,6 +75,7 @@ fn refuse_load(refusal: Refusal) -> Outcome
     }
 }
 
+#[tactic(auto, unfolding(crate::specs::Loads::load_call))]
 pub fn load(
     prg: &[u8],
     chr: &[u8],
@@ -137,9 +104,8 @@ pub fn load(
         exram: exram.len() as u32,
         chr_writable: settings.chr_writable,
     };
-    let mirroring = settings.mirroring;
     Outcome {
         answer: Answer::Nothing,
-        state: loaded(lengths, mirroring),
+        state: loaded(lengths, settings.mirroring),
     }
 }

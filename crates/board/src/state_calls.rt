@@ -2,50 +2,38 @@
 ghost use Rattle.std.specs.Prelude.{◌≡◌};
 ghost use Rattle.board.specs.StateCalls.{reset_call, mirroring_call, interrupt_call};
 
-use crate::{InterruptAnswer, MirroringAnswer, Outcome, refuse};
+use crate::{Outcome, asked, refuse};
 use answers::{Answer, Refusal};
+use registers::Mirroring;
 use state::State;
 
 // Modes 8k and 1k; nothing is mapped.
+#[tactic(auto, unfolding(crate::specs::StateCalls::state_asked, crate::specs::StateCalls::reset_call))]
 pub fn reset(s: State) -> Outcome
     ensures { result ≡ reset_call s }
 {
-    let ok = state::ranges::in_range(s);
-    if !ok {
-        return refuse(s, Refusal::State);
+    if let Err(refusal) = asked(s) {
+        return refuse(s, refusal);
     }
     let regs = registers::reset(s.regs);
-    let mut t = s;
-    t.regs = regs;
     Outcome {
         answer: Answer::Nothing,
-        state: t,
+        state: State { regs, ..s },
     }
 }
 
-pub fn mirroring(s: State) -> MirroringAnswer
+#[tactic(auto, unfolding(crate::specs::StateCalls::state_asked, crate::specs::StateCalls::mirroring_call))]
+pub fn mirroring(s: State) -> Result<Mirroring, Refusal>
     ensures { result ≡ mirroring_call s }
 {
-    let ok = state::ranges::in_range(s);
-    if !ok {
-        return MirroringAnswer::Refused(Refusal::State);
-    }
-    let screen = s.screen;
-    let mirroring = screen.mirroring;
-    MirroringAnswer::Is(mirroring)
+    asked(s)?;
+    Ok(s.screen.mirroring)
 }
 
-pub fn interrupt_up(s: State) -> InterruptAnswer
+#[tactic(auto, unfolding(crate::specs::StateCalls::state_asked, crate::specs::StateCalls::interrupt_call))]
+pub fn interrupt_up(s: State) -> Result<bool, Refusal>
     ensures { result ≡ interrupt_call s }
 {
-    let ok = state::ranges::in_range(s);
-    if !ok {
-        return InterruptAnswer::Refused(Refusal::State);
-    }
-    let up = scanline::interrupt_up(s.irq);
-    if up {
-        InterruptAnswer::Up
-    } else {
-        InterruptAnswer::Down
-    }
+    asked(s)?;
+    Ok(scanline::interrupt_up(s.irq))
 }

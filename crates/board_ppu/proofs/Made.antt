@@ -14,9 +14,8 @@ use Rattle.answers.specs.declared.Refusal.TheVariants.{Audio, Counter}
 use Rattle.scanline.specs.Fetches.{counted_at}
 use Rattle.scanline.specs.Ranges.{counter_refused}
 use Rattle.scanline.specs.Steps.{clocked}
-use Rattle.state.specs.declared.gate.Gate.TheVariants.{Open}
 use Rattle.state.specs.declared.State.{State}
-use Rattle.state.specs.Gate.{gate_mem}
+use Rattle.state.specs.Gate.{Open, gate_mem}
 use Rattle.state.proofs.GateLaws.{open_in_range}
 use Rattle.state.specs.With.{with_irq, with_regs, with_ppu, with_chr_pages}
 use Rattle.banks.specs.Chr.{chr_mapped}

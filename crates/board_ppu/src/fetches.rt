@@ -6,11 +6,11 @@ ghost use Rattle.board_ppu.specs.Fetch.{ppu_fetch};
 use crate::pages;
 use answers::Refusal;
 use board::Outcome;
-use memory::PpuAddr;
+use memory::{Lent, PpuAddr};
 use state::State;
-use state::gate::Gate;
 use steps::ppu_side;
 
+#[tactic(auto, unfolding(crate::specs::Fetch::ppu_fetch))]
 pub fn ppu_fetch(
     s: State,
     prg: &[u8],
@@ -23,12 +23,19 @@ pub fn ppu_fetch(
     ensures { result ≡ ppu_fetch s (mem_of prg.now chr.now ram.now ciram.now exram.now) addr.0 }
 {
     let gate = state::gate::passed(s, prg.len(), chr.len(), ram.len(), ciram.len(), exram.len());
-    if let Gate::Shut(refusal) = gate {
+    if let Err(refusal) = gate {
         return board::refuse(s, refusal);
     }
     if scanline::counter_refused(s.irq, addr) {
         return board::refuse(s, Refusal::Counter);
     }
+    let lent = Lent {
+        prg,
+        chr,
+        ram,
+        ciram,
+        exram,
+    };
     let regs = s.regs;
     let table = s.chr_pages;
     if scanline::tiles::counted(addr) {
@@ -37,24 +44,16 @@ pub fn ppu_fetch(
         let status = after.ppu;
         let vsplit = after.vsplit;
         let word = pages::chr_word_at(table, addr);
-        let answer = ppu_side::counted_answer(
-            regs,
-            vsplit,
-            irq.in_frame,
-            status,
-            word,
-            prg,
-            chr,
-            ram,
-            ciram,
-            exram,
-            addr,
-        );
-        let mut t = s;
-        t.irq = irq;
-        t.ppu = status;
-        t.vsplit = vsplit;
-        return Outcome { answer, state: t };
+        let answer = ppu_side::counted_answer(regs, vsplit, irq.in_frame, status, word, lent, addr);
+        return Outcome {
+            answer,
+            state: State {
+                irq,
+                ppu: status,
+                vsplit,
+                ..s
+            },
+        };
     }
     let status = ppu_side::chosen_at(s.ppu, s.irq.in_frame, addr);
     let banks = s.chr_banks;
@@ -67,11 +66,13 @@ pub fn ppu_fetch(
         table,
     );
     let word = pages::chr_word_at(mapped, addr);
-    let answer = ppu_side::other_answer(
-        regs, s.vsplit, s.irq, status, word, prg, chr, ram, ciram, exram, addr,
-    );
-    let mut t = s;
-    t.ppu = status;
-    t.chr_pages = mapped;
-    Outcome { answer, state: t }
+    let answer = ppu_side::other_answer(regs, s.vsplit, s.irq, status, word, lent, addr);
+    Outcome {
+        answer,
+        state: State {
+            ppu: status,
+            chr_pages: mapped,
+            ..s
+        },
+    }
 }

@@ -9,8 +9,8 @@ use answers::Answer;
 use board::Outcome;
 use memory::PpuAddr;
 use state::State;
-use state::gate::Gate;
 
+#[tactic(auto, unfolding(crate::specs::Peeks::ppu_write))]
 pub fn ppu_write(
     s: State,
     prg: &[u8],
@@ -25,11 +25,10 @@ pub fn ppu_write(
         ≡ ppu_write s (mem_of prg.now chr.old ram.old ciram.old exram.old) addr.0 val }
 {
     let gate = state::gate::passed(s, prg.len(), chr.len(), ram.len(), ciram.len(), exram.len());
-    if let Gate::Shut(refusal) = gate {
+    if let Err(refusal) = gate {
         return board::refuse(s, refusal);
     }
-    let table = s.chr_pages;
-    let word = pages::chr_word_at(table, addr);
+    let word = pages::chr_word_at(s.chr_pages, addr);
     memory::bytes::store(chr, ram, ciram, exram, word, addr.0 % 1024, val);
     Outcome {
         answer: Answer::Nothing,

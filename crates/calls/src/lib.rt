@@ -10,7 +10,6 @@ ghost use Rattle.calls.specs.Called.{called};
 
 use board::Outcome;
 use state::State;
-use state::gate::Gate;
 use trace::Call;
 
 // What a call on the state alone gives where the lent lengths are the recorded ones; else the gate's refusal.
@@ -26,7 +25,7 @@ fn over_lent(
     ensures { result ≡ behind (gate_mem s (mem_of prg.now chr.now ram.now ciram.now exram.now)) (refused s) given }
 {
     let gate = state::gate::passed(s, prg.len(), chr.len(), ram.len(), ciram.len(), exram.len());
-    if let Gate::Shut(refusal) = gate {
+    if let Err(refusal) = gate {
         return board::refuse(s, refusal);
     }
     given

@@ -2,20 +2,19 @@
 use Prim.Native.Nat.{ℕ, ◌%◌, ◌≤◌}
 use mathlib.Core.Bool.{true}
 use mathlib.Core.Path.{◌≡◌}
-use borrow.Author.Tests.{leb-true}
-use lib.Dec.{leb}
+use native.Mathlib.Omega.{arith}
+use Rattle.std.proofs.lemmas.Grind.{common_steps}
 use Rattle.memory.specs.declared.Page.{Page}
 use Rattle.memory.specs.Bytes.{Mem}
 use Rattle.memory.proofs.ByteLaws.{offset_low}
-use Rattle.memory.proofs.Tests.{and_left, and_right}
 use Rattle.cpu.specs.Groups.{within}
 use Rattle.cpu.specs.Reads.{page_answer}
 
 pub from : (lo hi a : ℕ) → within lo hi a ≡ true → lo ≤ a
-from lo hi a e = leb-true lo a (and_left (leb lo a) (leb a hi) e)
+from lo hi a e = grind (arith, common_steps)
 
 pub upto : (lo hi a : ℕ) → within lo hi a ≡ true → a ≤ hi
-upto lo hi a e = leb-true a hi (and_right (leb lo a) (leb a hi) e)
+upto lo hi a e = grind (arith, common_steps)
 
 pub answer_low : (m : Mem) (p : Page) (a : ℕ) → page_answer m p (a % 1024) ≡ page_answer m p a
 unfolding page_answer

@@ -1,13 +1,13 @@
 -- A CPU read answers a register's value or the page. And it is what it was: a test for each register in turn, and the page behind them.
 use Prim.Native.Nat.{ℕ, ◌-◌, ◌*◌, ◌/◌, ◌%◌}
-use mathlib.Core.Bool.{Bool, true, false, ◌||◌}
 use mathlib.Core.List.{List}
-use mathlib.Core.Option.{Option, none, some}
-use mathlib.Core.Path.{◌≡◌, refl}
+use mathlib.Core.Option.{Option}
+use mathlib.Core.Path.{◌≡◌}
+use native.Mathlib.Omega.{arith}
 use lib.Dec.{eqb}
+use Rattle.std.proofs.lemmas.Grind.{common_steps}
 use lib.ListN.{get_or}
 use Rattle.memory.specs.Tests.{pick}
-use Rattle.memory.proofs.Tests.{split}
 use Rattle.answers.specs.declared.Answer.{Answer}
 use Rattle.answers.specs.declared.Answer.TheVariants.{Register}
 use Rattle.registers.specs.declared.Regs.{Regs}
@@ -19,12 +19,7 @@ use Rattle.cpu.specs.Reads.{or_else, register_at, register_read, irq_read}
 
 -- What holds of any register's value and of the page holds of the read.
 pub or_keeps : (P : Answer → Type 0) (o : Option ℕ) (page : Answer) → ((v : ℕ) → P (Register v)) → P page → P (or_else o page)
-or_keeps P none page r p = p
-or_keeps P (some v) page r p = r v
-
-asked : (page : Answer) (b : Bool) (v : ℕ) (o : Option ℕ) (x : Answer) → or_else o page ≡ x → or_else (pick b (some v) o) page ≡ pick b (Register v) x
-asked page true v o x e = refl
-asked page false v o x e = e
+or_keeps P o page r p = grind (arith, common_steps)
 
 pub read_is : (g : Regs) (v : VSplit) (d : Detector) (prg chr : List ℕ) (a : ℕ) (page : Answer)
     → register_read g v d prg chr a page ≡
@@ -46,24 +41,7 @@ pub read_is : (g : Regs) (v : VSplit) (d : Detector) (prg chr : List ℕ) (a : �
     (pick (eqb a 0x5206) (Register (g.multiplicand * g.multiplier / 256))
     page))))))))))))))))
 unfolding register_read register_at
-read_is g v d prg chr a page =
-    asked page (within 0x5113 0x5117 a) _ _ _
-    (asked page (within 0x5120 0x512B a) _ _ _
-    (asked page (eqb a 0x5100) _ _ _
-    (asked page (eqb a 0x5101) _ _ _
-    (asked page (eqb a 0x5104) _ _ _
-    (asked page (eqb a 0x5105) _ _ _
-    (asked page (eqb a 0x5106) _ _ _
-    (asked page (eqb a 0x5107) _ _ _
-    (asked page (eqb a 0x5130) _ _ _
-    (asked page (eqb a 0x5200) _ _ _
-    (asked page (eqb a 0x5201) _ _ _
-    (asked page (eqb a 0x5202) _ _ _
-    (asked page (eqb a 0x5203) _ _ _
-    (asked page (eqb a 0x5204) _ _ _
-    (asked page (eqb a 0x5205) _ _ _
-    (asked page (eqb a 0x5206) _ _ _
-    refl)))))))))))))))
+read_is g v d prg chr a page = grind (arith, common_steps)
 
 -- Of a detector the three fields that a read can change; a read changes no other.
 abbrev pub read_fields : Detector → Detector → Detector
@@ -83,4 +61,4 @@ read_fields d e =
 
 pub read_changes : (d : Detector) (a : ℕ) → irq_read d a ≡ read_fields d (irq_read d a)
 unfolding irq_read
-read_changes d a = split (eqb a 0x5204) (λ t. rw t) (λ f. rw f (split (eqb a 0xFFFA || eqb a 0xFFFB) (λ t. rw t) (λ f. rw f)))
+read_changes d a = grind (arith, common_steps)

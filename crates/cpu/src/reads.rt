@@ -1,12 +1,11 @@
 // A CPU read or peek: a register, or else the page.
 ghost use Rattle.std.specs.Prelude.{◌≡◌, ◌*◌};
-ghost use Rattle.memory.specs.Bytes.{mem_of};
+ghost use Rattle.memory.specs.Bytes.{mem_in};
 ghost use Rattle.memory.specs.PageWords.{page_of};
 ghost use Rattle.cpu.specs.Reads.{answered_as, page_answer, register_read, irq_read, audio_read};
 
-use crate::groups;
 use answers::Answer;
-use memory::{CpuAddr, PageWord, Src};
+use memory::{CpuAddr, Lent, PageWord, Src};
 use registers::Regs;
 use scanline::Detector;
 use split::VSplit;
@@ -15,30 +14,20 @@ use split::VSplit;
 fn answered_as(src: Src, val: u8) -> Answer
     ensures { result ≡ answered_as src val }
 {
-    match src {
-        Src::Blank => Answer::Blank,
-        Src::PrgRom => Answer::Page(val),
-        Src::PrgRam => Answer::Page(val),
-        Src::Chr => Answer::Page(val),
-        Src::CiRam => Answer::Page(val),
-        Src::ExRam => Answer::Page(val),
+    if src == Src::Blank {
+        Answer::Blank
+    } else {
+        Answer::Page(val)
     }
 }
 
 // What a page word answers at an offset within its page.
-pub fn page_answer(
-    prg: &[u8],
-    chr: &[u8],
-    ram: &[u8],
-    ciram: &[u8],
-    exram: &[u8],
-    word: PageWord,
-    offset: u16,
-) -> Answer
-    ensures { result ≡ page_answer (mem_of prg.now chr.now ram.now ciram.now exram.now) (page_of word) offset }
+#[tactic(auto, unfolding(crate::specs::Reads::page_answer))]
+pub fn page_answer(lent: Lent<'_>, word: PageWord, offset: u16) -> Answer
+    ensures { result ≡ page_answer (mem_in lent.entry) (page_of word) offset }
 {
     let place = memory::page_words::place_of(word, offset);
-    let val = memory::bytes::peek(prg, chr, ram, ciram, exram, place);
+    let val = lent.peek(place);
     let src = place.src;
     answered_as(src, val)
 }
@@ -51,6 +40,7 @@ fn product(a: u8, b: u8) -> u16
 }
 
 // A register's value, or else what the page answers.
+#[tactic(auto, unfolding(crate::specs::Reads::register_read, crate::specs::Reads::register_at))]
 pub fn register_or(
     regs: Regs,
     vsplit: VSplit,
@@ -62,22 +52,15 @@ pub fn register_or(
 ) -> Answer
     ensures { result ≡ register_read regs vsplit irq prg_banks chr_banks addr.0 page }
 {
-    if groups::is_within(0x5113, 0x5117, addr) {
-        let at = (addr.0 - 0x5113) as usize;
-        return Answer::Register(prg_banks[at]);
-    }
-    if groups::is_within(0x5120, 0x512B, addr) {
-        let at = (addr.0 - 0x5120) as usize;
-        return Answer::Register(chr_banks[at]);
-    }
-    let a = addr.0;
-    match a {
+    match addr.0 {
         0x5100 => Answer::Register(regs.prg_mode),
         0x5101 => Answer::Register(regs.chr_mode),
         0x5104 => Answer::Register(regs.exram_mode),
         0x5105 => Answer::Register(regs.nametables),
         0x5106 => Answer::Register(regs.fill_tile),
         0x5107 => Answer::Register(regs.fill_attr),
+        0x5113..=0x5117 => Answer::Register(prg_banks[(addr.0 - 0x5113) as usize]),
+        0x5120..=0x512B => Answer::Register(chr_banks[(addr.0 - 0x5120) as usize]),
         0x5130 => Answer::Register(0),
         0x5200 => Answer::Register(vsplit.mode),
         0x5201 => Answer::Register(vsplit.scroll),
@@ -91,14 +74,13 @@ pub fn register_or(
 }
 
 // What a read, and no peek, leaves in the detector.
+#[tactic(auto, unfolding(crate::specs::Reads::irq_read))]
 pub fn irq_read(irq: Detector, addr: CpuAddr) -> Detector
     ensures { result ≡ irq_read irq addr.0 }
 {
-    let a = addr.0;
-    match a {
+    match addr.0 {
         0x5204 => scanline::status_read(irq),
-        0xFFFA => scanline::vector_read(irq),
-        0xFFFB => scanline::vector_read(irq),
+        0xFFFA | 0xFFFB => scanline::vector_read(irq),
         _ => irq,
     }
 }
@@ -107,5 +89,5 @@ pub fn irq_read(irq: Detector, addr: CpuAddr) -> Detector
 pub fn audio_read(addr: CpuAddr) -> bool
     ensures { result ≡ audio_read addr.0 }
 {
-    (addr.0 == 0x5010) | (addr.0 == 0x5015)
+    matches!(addr.0, 0x5010 | 0x5015)
 }

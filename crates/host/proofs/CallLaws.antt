@@ -10,7 +10,7 @@ use Rattle.memory.specs.PageWords.{page_of}
 use Rattle.answers.specs.declared.Answer.{Answer}
 use Rattle.answers.specs.declared.Answer.TheVariants.{Nothing, Refused}
 use Rattle.answers.specs.declared.Refusal.{Refusal}
-use Rattle.answers.specs.declared.Refusal.TheVariants.{Audio, State as StateBroken}
+use Rattle.answers.specs.declared.Refusal.TheVariants.{Audio}
 use Rattle.answers.specs.Refused.{is_refused}
 use Rattle.registers.specs.declared.Regs.{Regs}
 use Rattle.registers.specs.Registers.{reset_regs}
@@ -18,11 +18,9 @@ use Rattle.scanline.specs.declared.Detector.{Detector}
 use Rattle.scanline.specs.Steps.{clocked}
 use Rattle.scanline.proofs.RangeLaws.{ranges_kept}
 use Rattle.split.specs.declared.VSplit.{VSplit}
-use Rattle.state.specs.declared.gate.Gate.{Gate}
-use Rattle.state.specs.declared.gate.Gate.TheVariants.{Open, Shut}
 use Rattle.state.specs.declared.PpuStatus.{PpuStatus}
 use Rattle.state.specs.declared.State.{State}
-use Rattle.state.specs.Gate.{gate_mem}
+use Rattle.state.specs.Gate.{Gate, Open, Shut, gate_mem}
 use Rattle.state.specs.Ranges.{in_range}
 use Rattle.state.specs.With.{with_irq, with_regs, with_ppu}
 use Rattle.state.proofs.RangeLaws.{ranged}
@@ -42,24 +40,7 @@ use Rattle.host_state.proofs.Backs.{words_back}
 use Rattle.host_state.proofs.PutLaws.{irq_put, regs_put, status_put}
 use Rattle.host_answers.specs.Answers.{answer_plain, answer_with_interrupt}
 use Rattle.host.specs.Hosted.{left_words, on_words, left_memory, on_memory}
-use Rattle.host.proofs.HostLaws.{refused_left, refused_memory, taken_left, taken_memory, out_of_range_said, shut_said, open_in_range, status_said, irq_words_lem}
-
--- A state out of range, of a call that refuses it with 5.
-pub broken_left : (w : List ℕ) (f : State → Outcome) (o : Bool) (n : ℕ)
-    → o ≡ in_range (state_of w) → o ≡ false → (in_range (state_of w) ≡ false → (f (state_of w)).answer ≡ Refused StateBroken) → n ≡ answer_plain (Refused StateBroken) → left_words n w ≡ on_words w f
-broken_left w f o n e t ef en = refused_left w f StateBroken n (ef (out_of_range_said w o e t)) en
-
-pub clock_broken : (s : State) → in_range s ≡ false → (clock_call s).answer ≡ Refused StateBroken
-unfolding clock_call
-clock_broken s f = rw f
-
-pub reset_broken : (s : State) → in_range s ≡ false → (reset_call s).answer ≡ Refused StateBroken
-unfolding reset_call
-reset_broken s f = rw f
-
-pub register_broken : (s : State) (a v : ℕ) → in_range s ≡ false → (ppu_register_call s a v).answer ≡ Refused StateBroken
-unfolding ppu_register_call
-register_broken s a v f = rw f
+use Rattle.host.proofs.HostLaws.{refused_left, refused_memory, taken_left, taken_memory, shut_said, open_in_range, status_said, irq_words_lem}
 
 -- The clock.
 pub idle_small : (s : State) (d : Detector) → in_range s ≡ true → d ≡ s.irq → d.idle_count ≤ 2

@@ -23,11 +23,10 @@ use Rattle.scanline.specs.Tiles.{tiles_ok, column_of, is_prefetched, is_first}
 use Rattle.split.specs.declared.VSplit.{VSplit}
 use Rattle.split.specs.Control.{split_active}
 use Rattle.split.specs.Region.{scroll_of, after_name}
-use Rattle.state.specs.declared.gate.Gate.TheVariants.{Open}
 use Rattle.state.specs.declared.Lengths.{Lengths}
 use Rattle.state.specs.declared.PpuStatus.{PpuStatus}
 use Rattle.state.specs.declared.State.{State}
-use Rattle.state.specs.Gate.{gate_mem}
+use Rattle.state.specs.Gate.{Open, gate_mem}
 use Rattle.state.specs.Ranges.{in_range}
 use Rattle.state.specs.With.{with_irq, with_ppu, with_vsplit, with_chr_pages}
 use Rattle.state.proofs.RangeLaws.{ranged}

@@ -12,11 +12,9 @@ use Rattle.answers.specs.Refused.{is_refused}
 use Rattle.answers.proofs.Cases.{accepted_goes_on}
 use Rattle.registers.specs.declared.Mirroring.{Mirroring}
 use Rattle.scanline.specs.declared.Detector.{Detector}
-use Rattle.state.specs.declared.gate.Gate.{Gate}
-use Rattle.state.specs.declared.gate.Gate.TheVariants.{Open, Shut}
 use Rattle.state.specs.declared.PpuStatus.{PpuStatus}
 use Rattle.state.specs.declared.State.{State}
-use Rattle.state.specs.Gate.{gate_mem}
+use Rattle.state.specs.Gate.{Gate, Open, Shut, gate_mem}
 use Rattle.state.specs.Ranges.{in_range}
 use Rattle.state.specs.With.{with_irq}
 use Rattle.board.specs.declared.Outcome.{Outcome}
@@ -59,9 +57,6 @@ load_left m b s k o v n eo es ev en = rw (en, ev, eo, es)
 -- What the tests say where they hold: the state is in range, and the words are its words.
 pub in_range_said : (w : List ℕ) (o : Bool) → o ≡ in_range (state_of w) → o ≡ true → in_range (state_of w) ≡ true
 in_range_said w o e t = sym e ∙ t
-
-pub out_of_range_said : (w : List ℕ) (o : Bool) → o ≡ in_range (state_of w) → o ≡ false → in_range (state_of w) ≡ false
-out_of_range_said w o e t = sym e ∙ t
 
 pub open_said : (w : List ℕ) (m : Mem) (k : Gate) → k ≡ gate_mem (state_of w) m → k ≡ Open → gate_mem (state_of w) m ≡ Open
 open_said w m k e t = sym e ∙ t

@@ -18,12 +18,10 @@ use Rattle.registers.specs.declared.Mirroring.{Mirroring}
 use Rattle.registers.specs.declared.Regs.{Regs}
 use Rattle.scanline.specs.declared.Detector.{Detector}
 use Rattle.split.specs.declared.VSplit.{VSplit}
-use Rattle.state.specs.declared.gate.Gate.{Gate}
-use Rattle.state.specs.declared.gate.Gate.TheVariants.{Open, Shut}
 use Rattle.state.specs.declared.Lengths.{Lengths}
 use Rattle.state.specs.declared.PpuStatus.{PpuStatus}
 use Rattle.state.specs.declared.State.{State}
-use Rattle.state.specs.Gate.{gate_mem}
+use Rattle.state.specs.Gate.{Gate, Open, Shut, gate_mem}
 use Rattle.state.specs.Ranges.{in_range}
 use Rattle.state.specs.With.{with_irq, with_ppu, with_regs, with_vsplit}
 use Rattle.host_state.proofs.With.{with_mirroring, with_prg_banks, with_chr_banks, with_prg_pages}

@@ -9,9 +9,8 @@ ghost use Rattle.host_state.specs.Words.{state_of, words_of};
 ghost use Rattle.host.specs.Hosted.{left_words, on_words};
 
 use answers::{Answer, Refusal};
-use host_state::{gate, groups, limits, read, tables};
-use memory::PpuAddr;
-use state::gate::Gate;
+use host_state::{gate, groups, read, tables};
+use memory::{Lent, PpuAddr};
 use steps::ppu_side;
 
 // "mapping only on a change": the table is read and put back only then; the step of crate `steps` takes it whole.
@@ -19,7 +18,6 @@ fn map_on_change(before: bool, after: bool, words: &mut [u16; 144])
     requires { (in_range (state_of words.old) ≡ true) × (before ≡ (state_of words.old).ppu.bg_set) }
     ensures { words.new ≡ words_of (with_chr_pages (state_of words.old) (pattern_pages (state_of words.old) after)) }
 {
-    limits::sized(*words);
     if !cpu::chosen::set_changed(before, after) {
         return;
     }
@@ -43,7 +41,6 @@ pub fn mmc5_ppu_fetch(
 ) -> u32
     ensures { left_words result words.new ≡ on_words words.old (λ (s : State). ppu_fetch s (mem_of prg.now chr.now ram.now ciram.now exram.now) addr) }
 {
-    limits::sized(*words);
     let gate = gate::passed(
         words,
         prg.len(),
@@ -52,9 +49,16 @@ pub fn mmc5_ppu_fetch(
         ciram.len(),
         exram.len(),
     );
-    if let Gate::Shut(refusal) = gate {
+    if let Err(refusal) = gate {
         return host_answers::plain(Answer::Refused(refusal));
     }
+    let lent = Lent {
+        prg,
+        chr,
+        ram,
+        ciram,
+        exram,
+    };
     let at = PpuAddr(addr);
     let irq = read::detector_of(words);
     let ppu = read::status_of(words);
@@ -65,34 +69,25 @@ pub fn mmc5_ppu_fetch(
             return host_answers::plain(Answer::Refused(Refusal::Counter));
         }
         let counted = ppu_side::count_fetch(regs, irq, ppu, vsplit, at);
-        let irq_after = counted.irq;
-        let ppu_after = counted.ppu;
-        let split_after = counted.vsplit;
         let word = tables::chr_word(words, at);
         let answer = ppu_side::counted_answer(
             regs,
-            split_after,
-            irq_after.in_frame,
-            ppu_after,
+            counted.vsplit,
+            counted.irq.in_frame,
+            counted.ppu,
             word,
-            prg,
-            chr,
-            ram,
-            ciram,
-            exram,
+            lent,
             at,
         );
-        groups::put_detector(irq_after, words);
-        groups::put_tiles(ppu_after, words);
-        groups::put_region(split_after, words);
-        return host_answers::with_interrupt(answer, irq_after);
+        groups::put_detector(counted.irq, words);
+        groups::put_tiles(counted.ppu, words);
+        groups::put_region(counted.vsplit, words);
+        return host_answers::with_interrupt(answer, counted.irq);
     }
     let chosen = ppu_side::chosen_at(ppu, irq.in_frame, at);
     map_on_change(ppu.bg_set, chosen.bg_set, words);
     let word = tables::chr_word(words, at);
-    let answer = ppu_side::other_answer(
-        regs, vsplit, irq, chosen, word, prg, chr, ram, ciram, exram, at,
-    );
+    let answer = ppu_side::other_answer(regs, vsplit, irq, chosen, word, lent, at);
     groups::put_set(chosen, words);
     host_answers::with_interrupt(answer, irq)
 }

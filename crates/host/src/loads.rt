@@ -22,15 +22,11 @@ pub fn mmc5_load(
 ) -> u32
     ensures { left_words result words.new ≡ leaving_words (load_call (mem_of prg.now chr.now ram.now ciram.now exram.now) (not (eqb chr_writable 0)) (mirroring_numbered mirroring)) }
 {
-    let screen = read::mirroring_numbered(mirroring as u16);
     let settings = Settings {
         chr_writable: chr_writable != 0,
-        mirroring: screen,
+        mirroring: read::mirroring_numbered(u16::from(mirroring)),
     };
-    let o = board::loads::load(prg, chr, ram, ciram, exram, settings);
-    let answer = o.answer;
-    let t = o.state;
-    let irq = t.irq;
-    whole_state::put_state(t, words);
-    host_answers::with_interrupt(answer, irq)
+    let loaded = board::loads::load(prg, chr, ram, ciram, exram, settings);
+    whole_state::put_state(loaded.state, words);
+    host_answers::with_interrupt(loaded.answer, loaded.state.irq)
 }

@@ -5,14 +5,14 @@ ghost use Rattle.board.specs.StateCalls.{ppu_register_call};
 ghost use Rattle.host.specs.Hosted.{left_words, on_words};
 
 use answers::{Answer, Refusal};
-use host_state::{gate, groups, limits, read};
+use host_state::{gate, groups, read};
 use memory::CpuAddr;
 
 // A PPU register write.
+#[tactic(auto, unfolding(crate::specs::Hosted::on_words, board::specs::StateCalls::ppu_register_call))]
 pub fn mmc5_ppu_register(words: &mut [u16; 144], addr: u16, val: u8) -> u32
     ensures { left_words result words.new ≡ on_words words.old (λ (s : State). ppu_register_call s addr val) }
 {
-    limits::sized(*words);
     if !gate::in_range(words) {
         return host_answers::plain(Answer::Refused(Refusal::State));
     }

@@ -6,9 +6,8 @@ ghost use Rattle.board_ppu.specs.Peeks.{ppu_write};
 ghost use Rattle.host.specs.Hosted.{left_memory, on_memory};
 
 use answers::Answer;
-use host_state::{gate, limits, read, tables};
+use host_state::{gate, read, tables};
 use memory::PpuAddr;
-use state::gate::Gate;
 
 // A PPU memory write.
 pub fn mmc5_ppu_write(
@@ -24,7 +23,6 @@ pub fn mmc5_ppu_write(
     ensures { left_memory result words.new (mem_of prg.now chr.new ram.new ciram.new exram.new)
         ≡ on_memory words.old (mem_of prg.now chr.old ram.old ciram.old exram.old) (λ (s : State). ppu_write s (mem_of prg.now chr.old ram.old ciram.old exram.old) addr val) }
 {
-    limits::sized(*words);
     let gate = gate::passed(
         words,
         prg.len(),
@@ -33,7 +31,7 @@ pub fn mmc5_ppu_write(
         ciram.len(),
         exram.len(),
     );
-    if let Gate::Shut(refusal) = gate {
+    if let Err(refusal) = gate {
         return host_answers::plain(Answer::Refused(refusal));
     }
     let at = PpuAddr(addr);

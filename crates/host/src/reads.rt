@@ -6,9 +6,8 @@ ghost use Rattle.board.specs.CpuSide.{cpu_read};
 ghost use Rattle.host.specs.Hosted.{left_words, on_words};
 
 use answers::{Answer, Refusal};
-use host_state::{gate, groups, limits, read, tables};
-use memory::CpuAddr;
-use state::gate::Gate;
+use host_state::{gate, groups, read, tables};
+use memory::{CpuAddr, Lent};
 
 // A CPU read.
 pub fn mmc5_cpu_read(
@@ -22,7 +21,6 @@ pub fn mmc5_cpu_read(
 ) -> u32
     ensures { left_words result words.new ≡ on_words words.old (λ (s : State). cpu_read s (mem_of prg.now chr.now ram.now ciram.now exram.now) addr) }
 {
-    limits::sized(*words);
     let gate = gate::passed(
         words,
         prg.len(),
@@ -31,7 +29,7 @@ pub fn mmc5_cpu_read(
         ciram.len(),
         exram.len(),
     );
-    if let Gate::Shut(refusal) = gate {
+    if let Err(refusal) = gate {
         return host_answers::plain(Answer::Refused(refusal));
     }
     let at = CpuAddr(addr);
@@ -44,9 +42,14 @@ pub fn mmc5_cpu_read(
     let vsplit = read::split_of(words);
     let prg_banks = read::prg_banks_of(words);
     let chr_banks = read::chr_banks_of(words);
-    let answer = steps::cpu_side::read(
-        regs, vsplit, irq, prg_banks, chr_banks, word, prg, chr, ram, ciram, exram, at,
-    );
+    let lent = Lent {
+        prg,
+        chr,
+        ram,
+        ciram,
+        exram,
+    };
+    let answer = steps::cpu_side::read(regs, vsplit, irq, prg_banks, chr_banks, word, lent, at);
     let after = cpu::reads::irq_read(irq, at);
     groups::put_detector(after, words);
     host_answers::with_interrupt(answer, after)

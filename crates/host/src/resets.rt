@@ -5,13 +5,13 @@ ghost use Rattle.board.specs.StateCalls.{reset_call};
 ghost use Rattle.host.specs.Hosted.{left_words, on_words};
 
 use answers::{Answer, Refusal};
-use host_state::{gate, groups, limits, read};
+use host_state::{gate, groups, read};
 
 // Modes 8k and 1k.
+#[tactic(auto, unfolding(crate::specs::Hosted::on_words, board::specs::StateCalls::reset_call))]
 pub fn mmc5_reset(words: &mut [u16; 144]) -> u32
     ensures { left_words result words.new ≡ on_words words.old (λ (s : State). reset_call s) }
 {
-    limits::sized(*words);
     if !gate::in_range(words) {
         return host_answers::plain(Answer::Refused(Refusal::State));
     }

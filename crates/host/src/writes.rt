@@ -9,35 +9,30 @@ ghost use Rattle.host_state.specs.Words.{state_of, words_of};
 ghost use Rattle.host.specs.Hosted.{left_memory, on_memory};
 
 use answers::{Answer, Refusal};
-use host_state::{gate, groups, limits, read, tables};
+use host_state::{gate, groups, read, tables};
 use memory::CpuAddr;
-use state::gate::Gate;
 use steps::register_writes;
 
-// The words after a write to a register that maps PRG pages, and to any other.
+// The words after a write to a register that maps PRG pages, and to any other. That the words are in range is a clause, and no ghost field of a struct
+// around them: between two groups put back they need not be.
 fn write_prg(words: &mut [u16; 144], addr: CpuAddr, val: u8)
     requires { (in_range (state_of words.old) ≡ true) × (maps_prg addr.0 ≡ true) }
     ensures { words.new ≡ words_of (register_written (state_of words.old) addr.0 val) }
 {
-    limits::sized(*words);
     let lengths = read::lengths_of(words);
     let regs = read::regs_of(words);
     let banks = read::prg_banks_of(words);
     let pages = tables::prg_table(words);
     let w = register_writes::write_prg(lengths, regs, banks, pages, addr, val);
-    let regs_after = w.regs;
-    let banks_after = w.banks;
-    let pages_after = w.pages;
-    groups::put_regs(regs_after, words);
-    groups::put_prg_banks(banks_after, words);
-    tables::put_prg_table(pages_after, words);
+    groups::put_regs(w.regs, words);
+    groups::put_prg_banks(w.banks, words);
+    tables::put_prg_table(w.pages, words);
 }
 
 fn write_other(words: &mut [u16; 144], addr: CpuAddr, val: u8)
     requires { (in_range (state_of words.old) ≡ true) × (maps_prg addr.0 ≡ false) }
     ensures { words.new ≡ words_of (register_written (state_of words.old) addr.0 val) }
 {
-    limits::sized(*words);
     let lengths = read::lengths_of(words);
     let regs = read::regs_of(words);
     let vsplit = read::split_of(words);
@@ -50,22 +45,14 @@ fn write_other(words: &mut [u16; 144], addr: CpuAddr, val: u8)
     let w = register_writes::write_other(
         lengths, regs, vsplit, irq, ppu, mirroring, banks, pages, exram, addr, val,
     );
-    let regs_after = w.regs;
-    let split_after = w.vsplit;
-    let irq_after = w.irq;
-    let ppu_after = w.ppu;
-    let mirrored = w.mirroring;
-    let banks_after = w.banks;
-    let pages_after = w.pages;
-    let at_5c00 = w.exram;
-    groups::put_regs(regs_after, words);
-    groups::put_split(split_after, words);
-    groups::put_detector(irq_after, words);
-    groups::put_status(ppu_after, words);
-    groups::put_mirroring(mirrored, words);
-    groups::put_chr_banks(banks_after, words);
-    groups::put_exram_word(at_5c00, words);
-    tables::put_chr_table(pages_after, words);
+    groups::put_regs(w.regs, words);
+    groups::put_split(w.vsplit, words);
+    groups::put_detector(w.irq, words);
+    groups::put_status(w.ppu, words);
+    groups::put_mirroring(w.mirroring, words);
+    groups::put_chr_banks(w.banks, words);
+    groups::put_exram_word(w.exram, words);
+    tables::put_chr_table(w.pages, words);
 }
 
 // A CPU write.
@@ -82,7 +69,6 @@ pub fn mmc5_cpu_write(
     ensures { left_memory result words.new (mem_of prg.now chr.new ram.new ciram.new exram.new)
         ≡ on_memory words.old (mem_of prg.now chr.old ram.old ciram.old exram.old) (λ (s : State). cpu_write s (mem_of prg.now chr.old ram.old ciram.old exram.old) addr val) }
 {
-    limits::sized(*words);
     let gate = gate::passed(
         words,
         prg.len(),
@@ -91,7 +77,7 @@ pub fn mmc5_cpu_write(
         ciram.len(),
         exram.len(),
     );
-    if let Gate::Shut(refusal) = gate {
+    if let Err(refusal) = gate {
         return host_answers::plain(Answer::Refused(refusal));
     }
     let at = CpuAddr(addr);

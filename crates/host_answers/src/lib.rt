@@ -4,8 +4,8 @@
 ghost use Rattle.std.specs.Prelude.{◌≡◌};
 ghost use Rattle.host_answers.specs.Answers.{answer_plain, taken, answer_with_interrupt, answer_mirroring, answer_interrupt};
 
-use answers::Answer;
-use board::{InterruptAnswer, MirroringAnswer};
+use answers::{Answer, Refusal};
+use registers::Mirroring;
 use scanline::Detector;
 
 // The letter's code times 256, and the value.
@@ -21,45 +21,35 @@ pub fn plain(answer: Answer) -> u32
 fn is_taken(answer: Answer) -> bool
     ensures { result ≡ taken answer }
 {
-    match answer {
-        Answer::Nothing => true,
-        Answer::Register(_) => true,
-        Answer::Served(_) => true,
-        Answer::Page(_) => true,
-        Answer::Blank => true,
-        Answer::Refused(_) => false,
-    }
+    !matches!(answer, Answer::Refused(_))
 }
 
 // With 32,768 more where the interrupt is up after the call.
 pub fn with_interrupt(answer: Answer, irq: Detector) -> u32
     ensures { result ≡ answer_with_interrupt answer irq }
 {
-    let letter = answers::letter_of(answer);
-    let value = answers::value_of(answer);
-    let up = is_taken(answer) & scanline::interrupt_up(irq);
-    let number = letter as u32 * 256 + value as u32;
-    if up {
-        return number + 32768;
+    let number = plain(answer);
+    if is_taken(answer) & scanline::interrupt_up(irq) {
+        number + 32768
+    } else {
+        number
     }
-    number
 }
 
-pub fn mirroring(answer: MirroringAnswer) -> u32
+pub fn mirroring(answer: Result<Mirroring, Refusal>) -> u32
     ensures { result ≡ answer_mirroring answer }
 {
     match answer {
-        MirroringAnswer::Is(m) => host_state::groups::number_of_mirroring(m) as u32,
-        MirroringAnswer::Refused(r) => plain(Answer::Refused(r)),
+        Ok(m) => host_state::groups::number_of_mirroring(m) as u32,
+        Err(r) => plain(Answer::Refused(r)),
     }
 }
 
-pub fn interrupt(answer: InterruptAnswer) -> u32
+pub fn interrupt(answer: Result<bool, Refusal>) -> u32
     ensures { result ≡ answer_interrupt answer }
 {
     match answer {
-        InterruptAnswer::Up => 1,
-        InterruptAnswer::Down => 0,
-        InterruptAnswer::Refused(r) => plain(Answer::Refused(r)),
+        Ok(up) => up as u32,
+        Err(r) => plain(Answer::Refused(r)),
     }
 }

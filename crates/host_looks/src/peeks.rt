@@ -1,4 +1,6 @@
 // The peeks, over lent words.
+#![tactic(auto, unfolding(crate::specs::Looks::look_on))]
+
 ghost use Rattle.std.specs.Prelude.{◌≡◌};
 ghost use Rattle.state.specs.declared.State.{State};
 ghost use Rattle.memory.specs.Bytes.{mem_of};
@@ -10,7 +12,7 @@ ghost use Rattle.host_looks.specs.Looks.{look_on};
 use host_state::whole_state;
 use memory::{CpuAddr, PpuAddr};
 
-// A CPU peek.
+// A CPU peek. The peeks are three, and no function that takes the board's call as a closure: each is its call between two others, and a closure would be as long.
 pub fn mmc5_cpu_peek(
     words: &[u16; 144],
     prg: &[u8],

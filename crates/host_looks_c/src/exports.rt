@@ -1,4 +1,4 @@
-// The exports.
+// The exports. C calls each by its name, so each is a function of its own.
 ghost use Rattle.std.specs.Prelude.{◌≡◌};
 ghost use Rattle.memory.specs.Bytes.{mem_of};
 ghost use Rattle.memory.specs.PageWords.{page_of};

@@ -6,25 +6,23 @@ use mathlib.Core.Path.{◌≡◌, refl, sym, ◌∙◌, ap, subst}
 use native.Mathlib.Omega.{arith}
 use borrow.Author.Tests.{ltb-false}
 use lib.ListN.{length}
+use Rattle.std.specs.Prelude.{Ok, Err}
 use Rattle.memory.specs.Bytes.{Mem}
 use Rattle.memory.proofs.Tests.{split}
 use Rattle.answers.specs.declared.Refusal.{Refusal}
 use Rattle.answers.specs.declared.Refusal.TheVariants.{Length}
 use Rattle.answers.specs.Numbers.{number_of}
 use Rattle.answers.proofs.Cases.{if_refused_lem}
-use Rattle.state.specs.declared.gate.Gate.{Gate}
-use Rattle.state.specs.declared.gate.Gate.TheVariants.{Open, Shut}
 use Rattle.state.specs.declared.State.{State}
-use Rattle.state.specs.Gate.{gate_mem}
+use Rattle.state.specs.Gate.{Gate, Open, Shut, gate_mem}
 use Rattle.state.specs.Ranges.{in_range}
 use Rattle.board.specs.Outcomes.{behind}
+use Rattle.std.specs.Prelude.{Ok, Err}
 use Rattle.trace.specs.Records.{record_at, too_long}
 use Rattle.trace.proofs.RecordLaws.{record_advances}
 use Rattle.calls.specs.Called.{called}
-use Rattle.player.specs.declared.Ending.{Ending}
-use Rattle.player.specs.declared.Ending.TheVariants.{Done, Stopped}
 use Rattle.player.specs.declared.Replayed.{Replayed}
-use Rattle.player.specs.Replay.{Left, left_of, ended, played_from, replayed}
+use Rattle.player.specs.Replay.{Ending, Stopped, Left, left_of, ended, played_from, replayed}
 use Rattle.player.proofs.Ways.{by_found}
 use Rattle.theorems_promises.proofs.Gates.{in_range_of}
 use Rattle.host_state.specs.Words.{state_of, words_of}
@@ -49,8 +47,8 @@ unfolding replay_on
 replay_left w v trace m m' log log' b k s o n eb tb e t es eo ev en = rw (← eb, tb, ← e, t, en, ev, ← es, ← eo)
 
 by_gate : (P : Left → Type 0) (g : Gate) (shut : Refusal → Left) (go : Left) → ((why : Refusal) → P (shut why)) → P go → P (behind g shut go)
-by_gate P Open shut go s g = g
-by_gate P (Shut why) shut go s g = s why
+by_gate P (Ok u) shut go s g = g
+by_gate P (Err why) shut go s g = s why
 
 -- No count and no place is above the length of the trace.
 abbrev Within : ℕ → Left → Type 0
@@ -76,15 +74,9 @@ short s trace m log =
 pub short_ending : (s : State) (trace : List ℕ) (m m' : Mem) (log log' : List ℕ) (o : Replayed) → left_of o m' log' ≡ replayed s trace m log → last_of o.ending ≤ 8192
 short_ending s trace m m' log log' o e = subst (Within 8192) (sym e) (short s trace m log)
 
-pub done_short : (e : Ending) (count : ℕ) → e ≡ Done count → last_of e ≤ 8192 → count ≤ 8192
-done_short e count t h = rw t at h
-
-pub stopped_short : (e : Ending) (place : ℕ) (why : Refusal) → e ≡ Stopped place why → last_of e ≤ 8192 → place ≤ 8192
-stopped_short e place why t h = rw t at h
-
 pub apart_of : (e : Ending) → last_of e ≤ 8192 → TakenApart e
-apart_of (Done n) h = (omega (arith, h), omega (arith, h))
-apart_of (Stopped place why) h = (omega (arith, h), omega (arith, h))
+apart_of (Ok n) h = (omega (arith, h), omega (arith, h))
+apart_of (Err stopped) h = (omega (arith, h), omega (arith, h))
 
 -- What is played from a later place on stops at a later place.
 abbrev Past : Left → Type 0
@@ -131,8 +123,8 @@ hosting_same w trace m log e h a b =
     ∙ ap (λ (v : List ℕ). left_replay (ending_number (replayed (state_of w) trace m log).out.ending) v m log) (words_back w e h)
 
 on_gate : (w : List ℕ) (m : Mem) (log : List ℕ) (x : LeftReplay) (g : Gate) → (g ≡ Open → Same w m log x) → Same w m log (behind g (λ (r : Refusal). left_replay (ending_number (Stopped 0 r)) w m log) x)
-on_gate w m log x Open s = s refl
-on_gate w m log x (Shut r) s = λ a b. refl
+on_gate w m log x (Ok u) s = s refl
+on_gate w m log x (Err r) s = λ a b. refl
 
 same_on : (w trace : List ℕ) (m : Mem) (log : List ℕ) → length w ≡ 144 → Same w m log (replay_on w trace m log)
 unfolding replay_on

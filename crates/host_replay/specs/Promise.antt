@@ -2,8 +2,7 @@
 use Rattle.std.specs.Prelude.{ℕ, ◌/◌, ◌%◌, ◌≤◌, List, ◌≡◌, length}
 use Rattle.memory.specs.Bytes.{Mem}
 use Rattle.state.specs.declared.State.{State}
-use Rattle.player.specs.declared.Ending.{Ending}
-use Rattle.player.specs.Replay.{replayed}
+use Rattle.player.specs.Replay.{Ending, replayed}
 use Rattle.host_replay.specs.Replays.{ending_number, last_of, refusal_in, left_replay, replay_on}
 
 -- The number can be taken apart: no count and no place reaches 65,536.

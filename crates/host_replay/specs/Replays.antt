@@ -1,6 +1,6 @@
 -- Replay over lent words: what `player` plays on the state that the words stand for, and the words that stand for the state after it. 01: "replay
 -- checks 11, then 4 and 5, at place 0 before any record, in an empty trace too". Where it does not begin, every word stays.
-use Rattle.std.specs.Prelude.{ℕ, ◌+◌, ◌*◌, List, length}
+use Rattle.std.specs.Prelude.{ℕ, ◌+◌, ◌*◌, Ok, Err, List, length}
 use Rattle.memory.specs.Bytes.{Mem}
 use Rattle.memory.specs.Tests.{pick}
 use Rattle.answers.specs.declared.Refusal.{Refusal}
@@ -9,15 +9,13 @@ use Rattle.answers.specs.Numbers.{number_of}
 use Rattle.state.specs.Gate.{gate_mem}
 use Rattle.board.specs.Outcomes.{behind}
 use Rattle.trace.specs.Records.{too_long}
-use Rattle.player.specs.declared.Ending.{Ending}
-use Rattle.player.specs.declared.Ending.TheVariants.{Done, Stopped}
-use Rattle.player.specs.Replay.{Left, replayed}
+use Rattle.player.specs.Replay.{Ending, Stopped, Left, replayed}
 use Rattle.host_state.specs.Words.{state_of, words_of}
 
 -- "answers with that record's place, or with the record count": the count, or 65,536 times the refusal's number and the place.
 abbrev pub ending_number : Ending → ℕ
-ending_number (Done count) = count
-ending_number (Stopped place why) = 65536 * number_of why + place
+ending_number (Ok count) = count
+ending_number (Err stopped) = 65536 * number_of stopped.refusal + stopped.place
 
 -- What a replay leaves: its number, the words, the five buffers and the log.
 pub record LeftReplay : Type 0 where
@@ -40,10 +38,10 @@ replay_on w trace m log =
 
 -- The count, or the place.
 abbrev pub last_of : Ending → ℕ
-last_of (Done count) = count
-last_of (Stopped place why) = place
+last_of (Ok count) = count
+last_of (Err stopped) = stopped.place
 
 -- The refusal's number, or 0.
 abbrev pub refusal_in : Ending → ℕ
-refusal_in (Done count) = 0
-refusal_in (Stopped place why) = number_of why
+refusal_in (Ok count) = 0
+refusal_in (Err stopped) = number_of stopped.refusal

@@ -9,8 +9,7 @@ ghost use Rattle.host_replay.specs.Replays.{ending_number, last_of, left_replay,
 
 use answers::Refusal;
 use host_state::{gate, whole_state};
-use player::Ending;
-use state::gate::Gate;
+use player::{Ending, Stopped};
 
 // The count, or the refusal's number times 65,536 and the place.
 fn ending_number(ending: Ending) -> u32
@@ -18,9 +17,10 @@ fn ending_number(ending: Ending) -> u32
     ensures { result ≡ ending_number ending }
 {
     match ending {
-        Ending::Done(count) => count as u32,
-        Ending::Stopped(place, refusal) => 65536 * answers::number_of(refusal) as u32
-            + place as u32,
+        Ok(count) => count as u32,
+        Err(Stopped { place, refusal }) => {
+            65536 * answers::number_of(refusal) as u32 + place as u32
+        }
     }
 }
 
@@ -39,7 +39,10 @@ pub fn mmc5_replay(
         ≡ replay_on words.old trace.now (mem_of prg.now chr.old ram.old ciram.old exram.old) log.old }
 {
     if trace::too_long(trace.len()) {
-        return ending_number(Ending::Stopped(0, Refusal::Length));
+        return ending_number(Err(Stopped {
+            place: 0,
+            refusal: Refusal::Length,
+        }));
     }
     let gate = gate::passed(
         words,
@@ -49,8 +52,8 @@ pub fn mmc5_replay(
         ciram.len(),
         exram.len(),
     );
-    if let Gate::Shut(refusal) = gate {
-        return ending_number(Ending::Stopped(0, refusal));
+    if let Err(refusal) = gate {
+        return ending_number(Err(Stopped { place: 0, refusal }));
     }
     let s = whole_state::state_of(words);
     let o = player::replay(s, trace, prg, chr, ram, ciram, exram, log);

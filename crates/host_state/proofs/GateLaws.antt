@@ -7,9 +7,8 @@ use Rattle.memory.specs.Tests.{pick}
 use Rattle.memory.specs.Tables.{prg_table_ok, chr_table_ok}
 use Rattle.memory.proofs.Tests.{and_left, and_right, and_true}
 use Rattle.answers.specs.declared.Refusal.TheVariants.{Buffers, State as StateBroken}
-use Rattle.state.specs.declared.gate.Gate.TheVariants.{Open, Shut}
 use Rattle.state.specs.declared.Lengths.{Lengths}
-use Rattle.state.specs.Gate.{gate_of, same_lengths}
+use Rattle.state.specs.Gate.{Open, Shut, gate_of, same_lengths}
 use Rattle.state.specs.Ranges.{in_range}
 use Rattle.state.proofs.GateLaws.{passes, shut_load, shut_lengths, shut_ranges}
 use Rattle.host_state.specs.Words.{within_limits, lengths_of, pages_of, prg_numbers, chr_numbers, state_of}

@@ -1,5 +1,6 @@
-pub mod MappedLaws
 pub mod PartLaws
+pub mod ArrayLaws
+pub mod FoldLaws
 pub mod LimitLaws
 pub mod MovingLaws
 pub mod Within

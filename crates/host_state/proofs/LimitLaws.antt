@@ -1,15 +1,17 @@
 -- The limits: the loop that gathers by how much words are above theirs, and what holds of a word where none is.
-use Prim.Native.Nat.{ℕ, zero, suc, ◌+◌, ◌-◌, ◌<◌, ◌≤◌}
-use mathlib.Core.Bool.{Bool, true, false, ◌&&◌}
+use Prim.Native.Nat.{ℕ, zero, suc, ◌-◌, ◌<◌, ◌≤◌}
+use mathlib.Core.Bool.{Bool, true, ◌&&◌}
 use mathlib.Core.List.{List, [], ◌∷◌}
 use mathlib.Core.Logic.{◌≢◌}
 use mathlib.Core.Path.{◌≡◌, refl, sym, ap, ◌∙◌}
 use native.Mathlib.Omega.{arith}
-use borrow.Author.Tests.{leb-true, leb-false, eq-eqb, ne_eqb}
+use borrow.Author.Tests.{leb-true, ne_eqb}
 use lib.Bits.{bit_or, or_zero_l, or_add_and, and_le_r}
 use lib.Dec.{eqb, leb, leb-zero, eqb-suc-zero}
 use lib.ListN.{length, take, drop, get_or}
-use lib.Seq.{get_or-drop}
+use Rattle.std.specs.List.{fold, zip}
+use Rattle.std.proofs.Math.Bool.{and_assoc}
+use Rattle.std.proofs.lemmas.Bool.Decides.{nat_tests}
 use Rattle.memory.proofs.Tests.{split, and_left, and_right, and_true}
 use Rattle.host_state.specs.Words.{limits, all_within, within_limits}
 
@@ -39,35 +41,38 @@ or_none (suc a) b =
 
 -- A word is above its limit by nothing where it is within it.
 excess_none : (x l : ℕ) → eqb (x - l) 0 ≡ leb x l
-excess_none x l =
-    split (leb x l)
-    (λ t. rw t (eq-eqb (x - l) 0 (omega (arith, leb-true x l t))))
-    (λ f. rw f (ne_eqb (x - l) 0 (λ e. omega (arith, e, leb-false x l f))))
+excess_none x l = grind (arith, nat_tests)
 
--- The first sixteen words within, by another test, and the excesses of the i after them, gathered.
-pub record Gathered (w : List ℕ) (first : Bool) (above i : ℕ) : Type 0 where
-  pub none : first && eqb above 0 ≡ all_within (take (16 + i) limits) w
+-- The words from one on, against as many limits, their excesses gathered.
+gathered : (ls w : List ℕ) (above : ℕ) → eqb (fold (λ (a : ℕ) (p : ℕ × ℕ). bit_or a (p.0 - p.1)) above (zip w ls)) 0 ≡ eqb above 0 && all_within ls w
+unfolding all_within
+gathered [] [] above = sym (and_true (eqb above 0))
+gathered [] (x ∷ w) above = sym (and_true (eqb above 0))
+gathered (l ∷ ls) [] above = sym (and_true (eqb above 0))
+gathered (l ∷ ls) (x ∷ w) above =
+    gathered ls w (bit_or above (x - l)) ∙ rw (or_none above (x - l), excess_none x l) (and_assoc (eqb above 0) (leb x l) (all_within ls w))
 
-pub gather_first : (w : List ℕ) (first : Bool) → first ≡ all_within (take 16 limits) w → Gathered w first 0 0
-gather_first w first e = record { none = and_true first ∙ e }
+within_none : (ls : List ℕ) → all_within ls [] ≡ true
+unfolding all_within
+within_none [] = refl
+within_none (l ∷ ls) = refl
 
-and_next : (a b c : Bool) → a && (b && c) ≡ (a && b) && c
-and_next true b c = refl
-and_next false b c = refl
+within_apart : (n : ℕ) (ls w : List ℕ) → all_within ls w ≡ all_within (take n ls) w && all_within (drop n ls) (drop n w)
+unfolding all_within
+within_apart zero ls w = refl
+within_apart (suc n) [] w = refl
+within_apart (suc n) (l ∷ ls) [] = sym (within_none (drop n ls))
+within_apart (suc n) (l ∷ ls) (x ∷ w) = rw (within_apart n ls w) (sym (and_assoc (leb x l) (all_within (take n ls) w) (all_within (drop n ls) (drop n w))))
 
-pub gather_next : (w : List ℕ) (first : Bool) (above i more : ℕ) → Gathered w first above i → i < 48 → more ≡ get_or w (16 + i) 0 - get_or (drop 16 limits) i 0
-    → Gathered w first (bit_or above more) (i + 1)
-unfolding limits
-gather_next w first above i more g h e =
-    let k = 16 + i in
-    let next : 16 + (i + 1) ≡ suc k = omega arith in
-    let test = leb (get_or w k 0) (get_or limits k 0) in
-    record {
-      none =
-          rw (next, e, get_or-drop 16 limits i 0, or_none above (get_or w k 0 - get_or limits k 0), excess_none (get_or w k 0) (get_or limits k 0), and_next first (eqb above 0) test, g.none)
-          (sym (within_next limits w k (omega (arith, h))));
-    }
+within_taken : (ls w : List ℕ) → all_within ls (take (length ls) w) ≡ all_within ls w
+unfolding all_within
+within_taken [] w = refl
+within_taken (l ∷ ls) [] = refl
+within_taken (l ∷ ls) (x ∷ w) = ap (λ (b : Bool). leb x l && b) (within_taken ls w)
 
-pub gather_last : (w : List ℕ) (first : Bool) (above i : ℕ) → Gathered w first above i → i ≤ 48 → 48 ≤ i → first && eqb above 0 ≡ within_limits w
+-- The first sixteen by a test of their own, the others by what is gathered.
+pub limits_kept : (w : List ℕ) (first : Bool) (above : ℕ) → first ≡ all_within (take 16 limits) w
+    → above ≡ fold (λ (a : ℕ) (p : ℕ × ℕ). bit_or a (p.0 - p.1)) 0 (zip (take 48 (drop 16 w)) (drop 16 limits)) → first && eqb above 0 ≡ within_limits w
 unfolding within_limits limits
-gather_last w first above i g high low = let end : i ≡ 48 = omega (arith, high, low) in g.none ∙ ap (λ (k : ℕ). all_within (take (16 + k) limits) w) end
+limits_kept w first above ef ea =
+    rw (ea, gathered (drop 16 limits) (take 48 (drop 16 w)) 0, ef, within_taken (drop 16 limits) (drop 16 w)) (sym (within_apart 16 limits w))

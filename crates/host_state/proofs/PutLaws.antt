@@ -6,6 +6,7 @@ use native.Mathlib.Nat.{add-zero}
 use native.Mathlib.Omega.{arith}
 use lib.ListN.{length, get_or, set, take, drop, length-append, length-drop, drop_of_length-le}
 use lib.Seq.{take_all, take_at, drop_at, set-append_left}
+use Rattle.std.proofs.lemmas.List.{map-set}
 use Rattle.memory.specs.declared.PageWord.{PageWord}
 use Rattle.registers.specs.declared.Mirroring.{Mirroring}
 use Rattle.registers.specs.declared.Regs.{Regs}
@@ -16,7 +17,7 @@ use Rattle.state.specs.declared.State.{State}
 use Rattle.state.specs.With.{with_irq, with_ppu, with_regs, with_vsplit, with_chr_pages}
 use Rattle.host_state.proofs.With.{with_mirroring, with_prg_banks, with_chr_banks, with_prg_pages}
 use Rattle.host_state.specs.Put.{length_words, reg_words, region_words, split_words, irq_words, tile_words, set_words, status_words, mirroring_words, prg_bank_words, chr_bank_words, prg_page_words, chr_page_words, exram_words}
-use Rattle.host_state.specs.Words.{numbers_of, numbers_at, words_of}
+use Rattle.host_state.specs.Words.{page_number, numbers_of, numbers_at, words_of}
 use Rattle.host_state.proofs.PartLaws.{numbers_length}
 
 -- A list from a place on, element by element.
@@ -113,15 +114,10 @@ prg_pages_put s pages es e =
 pub chr_pages_put : (s : State) (pages : List PageWord) → length s.prg_pages ≡ 64 → length s.chr_pages ≡ 16 → length pages ≡ 16 → chr_page_words (words_of s) pages ≡ words_of (with_chr_pages s pages)
 chr_pages_put s pages ep ec e = chr_over s (numbers_of s.prg_pages) (numbers_of s.chr_pages) pages (numbers_length s.prg_pages 64 ep) (numbers_length s.chr_pages 16 ec) e
 
-numbers_set : (pages : List PageWord) (i : ℕ) (x : PageWord) → set (numbers_of pages) i x.0 ≡ numbers_of (set pages i x)
-numbers_set [] i x = refl
-numbers_set (y ∷ pages) zero x = refl
-numbers_set (y ∷ pages) (suc i) x = ap (λ (l : List ℕ). y.0 ∷ l) (numbers_set pages i x)
-
 pub exram_put : (s : State) (x : PageWord) → length s.prg_pages ≡ 64 → exram_words (words_of s) x ≡ words_of (with_prg_pages s (set s.prg_pages 23 x))
 exram_put s x e =
     ap (numbers_at s) (set-append_left (numbers_of s.prg_pages) (numbers_of s.chr_pages) 23 x.0 (omega (arith, numbers_length s.prg_pages 64 e)))
-    ∙ ap (λ (l : List ℕ). numbers_at s (l ++ numbers_of s.chr_pages)) (numbers_set s.prg_pages 23 x)
+    ∙ ap (λ (l : List ℕ). numbers_at s (l ++ numbers_of s.chr_pages)) (sym (map-set page_number s.prg_pages 23 x))
 
 -- Every group, over any words.
 numbers_put : (s : State) (l rest : List ℕ) (f : ℕ → ℕ) → l ≡ up_from 0 64 f ++ rest → length s.prg_banks ≡ 5 → length s.chr_banks ≡ 16

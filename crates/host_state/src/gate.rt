@@ -6,7 +6,6 @@ ghost use Rattle.host_state.specs.Words.{state_of};
 
 use crate::{limits, read, tables};
 use answers::Refusal;
-use state::gate::Gate;
 
 // The words stand for a state in range: none is above its limit, the state is marked loaded, and each page is one that its table may show.
 pub fn in_range(words: &[u16; 144]) -> bool
@@ -29,20 +28,20 @@ pub fn passed(
     ram: usize,
     ciram: usize,
     exram: usize,
-) -> Gate
+) -> Result<(), Refusal>
     ensures { result ≡ gate_of (state_of words.now) prg chr ram ciram exram }
 {
     let z = read::lengths_of(words);
     let same = state::gate::same_lengths(z, prg, chr, ram, ciram, exram);
     let ok = in_range(words);
     if ok & same {
-        return Gate::Open;
+        return Ok(());
     }
     if !z.loaded {
-        return Gate::Shut(Refusal::State);
+        return Err(Refusal::State);
     }
     if !same {
-        return Gate::Shut(Refusal::Buffers);
+        return Err(Refusal::Buffers);
     }
-    Gate::Shut(Refusal::State)
+    Err(Refusal::State)
 }

@@ -3,19 +3,11 @@ ghost use Rattle.std.specs.Prelude.{◌≡◌, ◌-◌, ◌/◌};
 ghost use Rattle.host_state.specs.Put.{length_words, mode_words, reg_words, region_words, split_words, irq_words, tile_words, set_words, status_words, mirroring_words, prg_bank_words, chr_bank_words, exram_words};
 ghost use Rattle.host_state.specs.Words.{number_of_mirroring};
 
-use crate::limits;
 use memory::PageWord;
 use registers::{Mirroring, Regs};
 use scanline::Detector;
 use split::VSplit;
 use state::{Lengths, PpuStatus};
-
-// A byte as a word.
-fn as_word(n: u8) -> u16
-    ensures { result ≡ n }
-{
-    n as u16
-}
 
 // The modes, the protection, the ExRAM mode and $5105, for `put_regs`.
 fn put_modes(g: Regs, words: &mut [u16; 144])
@@ -101,16 +93,11 @@ pub fn put_status(p: PpuStatus, words: &mut [u16; 144])
     words[22] = p.rendering as u16;
 }
 
+// The mirrorings count from 0 in the order of their type.
 pub fn number_of_mirroring(m: Mirroring) -> u16
     ensures { result ≡ number_of_mirroring m }
 {
-    match m {
-        Mirroring::Horizontal => 0,
-        Mirroring::Vertical => 1,
-        Mirroring::SingleScreenA => 2,
-        Mirroring::SingleScreenB => 3,
-        Mirroring::FourScreen => 4,
-    }
+    m as u16
 }
 
 pub fn put_mirroring(m: Mirroring, words: &mut [u16; 144])
@@ -122,23 +109,13 @@ pub fn put_mirroring(m: Mirroring, words: &mut [u16; 144])
 pub fn put_prg_banks(b: [u8; 5], words: &mut [u16; 144])
     ensures { words.new ≡ prg_bank_words words.old b }
 {
-    limits::sized(*words);
-    let mut i: usize = 0;
-    while i < 5 {
-        words[42 + i] = as_word(b[i]);
-        i += 1;
-    }
+    words[42..47].copy_from_slice(&b.map(u16::from));
 }
 
 pub fn put_chr_banks(b: [u8; 16], words: &mut [u16; 144])
     ensures { words.new ≡ chr_bank_words words.old b }
 {
-    limits::sized(*words);
-    let mut i: usize = 0;
-    while i < 16 {
-        words[47 + i] = as_word(b[i]);
-        i += 1;
-    }
+    words[47..63].copy_from_slice(&b.map(u16::from));
 }
 
 // ExRAM's page, at $5C00.
@@ -152,11 +129,7 @@ pub fn put_exram_word(x: PageWord, words: &mut [u16; 144])
 fn last_bank(prg: u32) -> u32
     ensures { result ≡ prg / 8192 - 1 }
 {
-    let banks = prg / 8192;
-    if banks == 0 {
-        return 0;
-    }
-    banks - 1
+    (prg / 8192).saturating_sub(1)
 }
 
 pub fn put_lengths(z: Lengths, words: &mut [u16; 144])

@@ -1,5 +1,5 @@
 // The state in plain words: what a host lends and keeps, one array of 144 words of 16 bits, read as a state, and a state put back. Every word has one
-// meaning and one limit (specs/Words.antt).
+// meaning and one limit (specs/Words.antt). It stays a plain array, and no struct with methods: so C lends it, and so every public clause speaks of it.
 #![tactic(auto)]
 
 ghost use Rattle.host_state.specs.Promise.{WordsAndStates};

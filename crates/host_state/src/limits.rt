@@ -1,4 +1,4 @@
-// The limits of the first 64 words: of those that a clock, a read or a fetch puts back one by one, of the others in one loop.
+// The limits of the first 64 words: of those that a clock, a read or a fetch puts back one by one, of the others in one chain.
 ghost use Rattle.std.specs.Prelude.{◌≡◌, ◌-◌, length, take};
 ghost use Rattle.host_state.specs.Words.{limits, all_within, within_limits};
 
@@ -10,20 +10,10 @@ const LIMITS: [u16; 48] = [
     255, 255, 255, 0,
 ];
 
-// No code: an array that is lent has its length, which its type says and a proof wants to hear.
+// No code: an array that is lent has its length. Today's prover knows it from the type; kept since it is public, and `theorems_settles` names it.
 pub fn sized(words: [u16; 144])
     ensures { length words ≡ 144 }
 {}
-
-// By how much a word is above its limit: 0 where it is not.
-fn excess(most: u16, n: u16) -> u16
-    ensures { result ≡ n - most }
-{
-    if n < most {
-        return 0;
-    }
-    n - most
-}
 
 // Words 0 to 15: the detector, which a clock, a read and a fetch that counts put back, and what else a fetch may change. Each is loaded alone: a load of
 // eight at once would wait until the stores of the call before are in the cache (docs/SPEED.md). Flags together are at most 1, and bytes at most 255,
@@ -45,18 +35,14 @@ fn moving_within(words: &[u16; 144]) -> bool
     (flags <= 1) & (bytes <= 255) & counts & places
 }
 
-// Of the others the excesses are gathered bit by bit, and must be nothing. The table is bound before the loop: indexed by its name, it would be built again
-// in every turn.
+// Of the others the excesses are gathered bit by bit, and must be nothing: with no branch, so that the compiler can take eight words at once.
 pub fn within_limits(words: &[u16; 144]) -> bool
     ensures { result ≡ within_limits words.now }
 {
     let moving = moving_within(words);
-    let most = LIMITS;
-    let mut above: u16 = 0;
-    let mut i: usize = 0;
-    while i < 48 {
-        above = above | excess(most[i], words[16 + i]);
-        i += 1;
-    }
+    let above = words[16..64]
+        .iter()
+        .zip(&LIMITS)
+        .fold(0u16, |above, (n, most)| above | n.saturating_sub(*most));
     moving & (above == 0)
 }

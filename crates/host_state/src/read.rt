@@ -2,37 +2,23 @@
 ghost use Rattle.std.specs.Prelude.{◌≡◌, ◌<◌, ◌%◌, get_or};
 ghost use Rattle.host_state.specs.Words.{mirroring_numbered, lengths_of, regs_of, split_of, detector_of, status_of, prg_banks_of, chr_banks_of};
 
-use crate::limits;
 use memory::PpuAddr;
 use registers::{Mirroring, Regs};
 use scanline::Detector;
 use split::VSplit;
 use state::{Lengths, PpuStatus};
 
-// The low byte of a word.
+// The low byte of a word. A function: std has none that drops the high byte, and a cast has to be shown to lose nothing.
 fn low(n: u16) -> u8
     ensures { result ≡ n % 256 }
 {
     (n % 256) as u8
 }
 
-// A word as a wider number.
-fn wide(n: u16) -> u32
-    ensures { (result ≡ n) × (n < 65536) }
-{
-    n as u32
-}
-
 pub fn mirroring_numbered(n: u16) -> Mirroring
     ensures { result ≡ mirroring_numbered n }
 {
-    match n {
-        0 => Mirroring::Horizontal,
-        1 => Mirroring::Vertical,
-        2 => Mirroring::SingleScreenA,
-        3 => Mirroring::SingleScreenB,
-        _ => Mirroring::FourScreen,
-    }
+    Mirroring::from(n)
 }
 
 pub fn lengths_of(words: &[u16; 144]) -> Lengths
@@ -40,9 +26,9 @@ pub fn lengths_of(words: &[u16; 144]) -> Lengths
 {
     Lengths {
         loaded: words[16] == 1,
-        prg: (wide(words[39]) + 1) * 8192,
-        chr: wide(words[40]) * 1024,
-        ram: wide(words[41]) * 1024,
+        prg: (u32::from(words[39]) + 1) * 8192,
+        chr: u32::from(words[40]) * 1024,
+        ram: u32::from(words[41]) * 1024,
         ciram: 2048,
         exram: 1024,
         chr_writable: words[17] == 1,
@@ -104,7 +90,7 @@ pub fn status_of(words: &[u16; 144]) -> PpuStatus
     ensures { result ≡ status_of words.now }
 {
     PpuStatus {
-        tile_number: wide(words[12]),
+        tile_number: u32::from(words[12]),
         tile_cache: words[13],
         sprite8x16: words[21] == 1,
         rendering: words[22] == 1,
@@ -122,25 +108,11 @@ pub fn mirroring_of(words: &[u16; 144]) -> Mirroring
 pub fn prg_banks_of(words: &[u16; 144]) -> [u8; 5]
     ensures { result ≡ prg_banks_of words.now }
 {
-    limits::sized(*words);
-    let mut banks = [0u8; 5];
-    let mut i: usize = 0;
-    while i < 5 {
-        banks[i] = (words[42 + i] % 256) as u8;
-        i += 1;
-    }
-    banks
+    std::array::from_fn(|i| low(words[42 + i]))
 }
 
 pub fn chr_banks_of(words: &[u16; 144]) -> [u8; 16]
     ensures { result ≡ chr_banks_of words.now }
 {
-    limits::sized(*words);
-    let mut banks = [0u8; 16];
-    let mut i: usize = 0;
-    while i < 16 {
-        banks[i] = (words[47 + i] % 256) as u8;
-        i += 1;
-    }
-    banks
+    std::array::from_fn(|i| low(words[47 + i]))
 }

@@ -10,39 +10,33 @@ use state::{PpuStatus, Screen, State};
 fn status_within(words: &[u16; 144]) -> PpuStatus
     ensures { result ≡ pick (within_limits words.now) (status_of words.now) (with_no_tile (status_of words.now)) }
 {
-    let p = read::status_of(words);
+    let status = read::status_of(words);
     if limits::within_limits(words) {
-        return p;
+        status
+    } else {
+        PpuStatus {
+            tile_number: 84,
+            ..status
+        }
     }
-    let mut q = p;
-    q.tile_number = 84;
-    q
 }
 
 pub fn state_of(words: &[u16; 144]) -> State
     ensures { result ≡ state_of words.now }
 {
-    let lengths = read::lengths_of(words);
-    let regs = read::regs_of(words);
-    let vsplit = read::split_of(words);
-    let irq = read::detector_of(words);
-    let ppu = status_within(words);
-    let mirroring = read::mirroring_of(words);
-    let prg_banks = read::prg_banks_of(words);
-    let chr_banks = read::chr_banks_of(words);
-    let prg_pages = tables::prg_table(words);
-    let chr_pages = tables::chr_table(words);
     State {
-        lengths,
-        regs,
-        vsplit,
-        irq,
-        ppu,
-        screen: Screen { mirroring },
-        prg_banks,
-        chr_banks,
-        prg_pages,
-        chr_pages,
+        lengths: read::lengths_of(words),
+        regs: read::regs_of(words),
+        vsplit: read::split_of(words),
+        irq: read::detector_of(words),
+        ppu: status_within(words),
+        screen: Screen {
+            mirroring: read::mirroring_of(words),
+        },
+        prg_banks: read::prg_banks_of(words),
+        chr_banks: read::chr_banks_of(words),
+        prg_pages: tables::prg_table(words),
+        chr_pages: tables::chr_table(words),
     }
 }
 
@@ -50,23 +44,15 @@ pub fn state_of(words: &[u16; 144]) -> State
 pub fn put_state(s: State, words: &mut [u16; 144])
     ensures { words.new ≡ words_of s }
 {
-    limits::sized(*words);
-    let screen = s.screen;
-    let mirroring = screen.mirroring;
-    let prg_banks = s.prg_banks;
-    let chr_banks = s.chr_banks;
-    let prg_pages = s.prg_pages;
-    let chr_pages = s.chr_pages;
-    tables::arrays_sized(prg_banks, chr_banks, prg_pages, chr_pages);
     groups::put_lengths(s.lengths, words);
     groups::put_regs(s.regs, words);
     groups::put_split(s.vsplit, words);
     groups::put_detector(s.irq, words);
     groups::put_status(s.ppu, words);
-    groups::put_mirroring(mirroring, words);
-    groups::put_prg_banks(prg_banks, words);
-    groups::put_chr_banks(chr_banks, words);
+    groups::put_mirroring(s.screen.mirroring, words);
+    groups::put_prg_banks(s.prg_banks, words);
+    groups::put_chr_banks(s.chr_banks, words);
     words[63] = 0;
-    tables::put_prg_table(prg_pages, words);
-    tables::put_chr_table(chr_pages, words);
+    tables::put_prg_table(s.prg_pages, words);
+    tables::put_chr_table(s.chr_pages, words);
 }

@@ -16,6 +16,7 @@ fn log_letter(answer: Answer, up: bool) -> u8
 }
 
 // The two bytes of record n, by its answer and the detector after it.
+#[tactic(auto, unfolding(crate::specs::Logs::logged))]
 pub fn log_record(log: &mut [u8], n: usize, answer: Answer, irq: Detector)
     requires { n ≤ 8192 }
     ensures { log.new ≡ logged log.old n answer (interrupt_up irq) }

@@ -1,5 +1,5 @@
 -- Tests: one proof by the two values of a test, and tests that come to the same.
-use Rattle.std.proofs.Common.{◌≡◌, ℕ, zero, suc, ◌<◌, ◌≤◌, Bool, true, false, ◌&&◌, ◌||◌, ltb, leb, List, [], ◌∷◌, get_or, sym, refl, ltb-true, lt-ltb, le-leb, leb-true}
+use Rattle.std.proofs.Common.{◌≡◌, ℕ, zero, suc, Bool, true, false, ◌&&◌, List, [], ◌∷◌, get_or, sym, refl}
 use mathlib.Core.Bool.{false≢true}
 use Rattle.memory.specs.Tests.{conj, pick}
 
@@ -24,23 +24,13 @@ and_right false b e = absurd (false≢true e)
 pub and_both : (a b : Bool) → a ≡ true → b ≡ true → a && b ≡ true
 and_both a b p q = rw (p, q)
 
-pub or_false : (b : Bool) → b || false ≡ b
-or_false true = refl
-or_false false = refl
-
 pub and_true : (b : Bool) → b && true ≡ b
 and_true true = refl
 and_true false = refl
 
-pub lt_is_le : (a b c d : ℕ) → (a < b → c ≤ d) → (c ≤ d → a < b) → ltb a b ≡ leb c d
-lt_is_le a b c d f g = same_test (ltb a b) (leb c d) (λ t. le-leb c d (f (ltb-true a b t))) (λ t. lt-ltb a b (g (leb-true c d t)))
-
 pub and_false : (b : Bool) → b && false ≡ false
 and_false true = refl
 and_false false = refl
-
-pub le_is_le : (a b c d : ℕ) → (a ≤ b → c ≤ d) → (c ≤ d → a ≤ b) → leb a b ≡ leb c d
-le_is_le a b c d f g = same_test (leb a b) (leb c d) (λ t. le-leb c d (f (leb-true a b t))) (λ t. le-leb a b (g (leb-true c d t)))
 
 -- What holds of both holds of the one picked.
 pub pick_keeps : {A : Type 0} (P : A → Type 0) (b : Bool) {x y : A} → P x → P y → P (pick b x y)

@@ -1,11 +1,10 @@
 -- Laws of windows, over their size: a window starts in its buffer, each page follows the page before it, wrapped, and a whole page lies
 -- in the buffer.
-use Rattle.std.proofs.Common.{◌≡◌, ℕ, zero, suc, ◌+◌, ◌*◌, ◌/◌, ◌%◌, ◌<◌, ◌≤◌, max, Bool, ltb, leb, List, set, replicate, sym, refl, ap, ◌∙◌, add-zero, mul-le-mul_right, mod-lt, mod-eq_of_lt, add-mul, le-div_iff_mul-le, div-mul-le_self, add-one, arith, ltb-false, ltb-true, ne_eqb, leb-false, leb-true}
+use Rattle.std.proofs.Common.{◌≡◌, ℕ, ◌+◌, ◌*◌, ◌/◌, ◌%◌, ◌<◌, ◌≤◌, max, Bool, ltb, leb, sym, ap, ◌∙◌, add-zero, mul-le-mul_right, mod-lt, mod-eq_of_lt, add-mul, le-div_iff_mul-le, div-mul-le_self, arith, ltb-false, ltb-true, ne_eqb, leb-false, leb-true}
 use native.Mathlib.Nat.{mod-one, mod-add-mod, mod-eq-sub-mod, div-eq_of_lt}
-use Rattle.memory.specs.declared.PageWord.{PageWord}
 use Rattle.memory.specs.declared.Src.{Src}
-use Rattle.memory.specs.PageWords.{word, page, word_of}
-use Rattle.memory.specs.Windows.{banks, window_start, page_start, window_page, window_word, prg_window}
+use Rattle.memory.specs.PageWords.{page}
+use Rattle.memory.specs.Windows.{banks, window_start, page_start, window_page}
 use Rattle.memory.specs.ForCode.{following}
 use Rattle.memory.proofs.Tests.{split}
 
@@ -66,37 +65,3 @@ one_page_window len number h e =
 pub shown_page : (s : Src) (len size bank : ℕ) (w : Bool) (i : ℕ) → 1 ≤ len → window_page s len size bank w i ≡ page s (page_start len size bank i / 1024) w
 unfolding window_page
 shown_page s len size bank w i h = rw (ne_eqb len 0 (λ (e : len ≡ 0). omega arith))
-
--- The first n places of a list, filled by their index.
-unfoldable pub filled : {A : Type 0} → (ℕ → A) → ℕ → List A → List A
-filled f zero l = l
-filled f (suc n) l = set (filled f n l) n (f n)
-
--- `prg_window` on its way: the first i page words stand, and page i starts at x.
-pub record Filling (s : Src) (len bank : ℕ) (w : Bool) (pages : List PageWord) (x i : ℕ) : Type 0 where
-  pub few : i ≤ 8
-  pub some : 1 ≤ len
-  pub here : x ≡ page_start len 8192 bank i
-  pub done : pages ≡ filled (window_word s len bank w) i (replicate 8 (word 0))
-
-pub fill_first : (s : Src) (len bank : ℕ) (w : Bool) (x : ℕ) → 1 ≤ len → x ≡ page_start len 8192 bank 0 → Filling s len bank w (replicate 8 (word 0)) x 0
-unfolding filled
-fill_first s len bank w x h e = record { few = omega arith; some = h; here = e; done = refl }
-
-pub fill_next : (s : Src) (len bank : ℕ) (w : Bool) (pages : List PageWord) (x i : ℕ) (p : PageWord) (y : ℕ)
-    → Filling s len bank w pages x i → i < 8 → len % 1024 ≡ 0 → p ≡ word_of (page s (x / 1024) w) → y ≡ following len x
-    → Filling s len bank w (set pages i p) y (i + 1)
-unfolding filled
-fill_next s len bank w pages x i p y f h e pw py =
-    record {
-      few = omega arith;
-      some = f.some;
-      here = py ∙ rw f.here (sym (next_page len 8192 bank i (omega (arith, f.some))));
-      done = rw (add-one i, f.done, pw, f.here, shown_page s len 8192 bank w i f.some);
-    }
-
-pub fill_last : (s : Src) (len bank : ℕ) (w : Bool) (pages : List PageWord) (x i : ℕ) → Filling s len bank w pages x i → 8 ≤ i → pages ≡ prg_window s len bank w
-unfolding filled
-fill_last s len bank w pages x i f h =
-    let e : i ≡ 8 = omega (arith, f.few) in
-    rw e at f.done

@@ -1,6 +1,7 @@
 -- The five lent buffers, the byte that a page and an address name, and a store through a page.
 -- 01, module 1: "1,024 bytes each .. Blank reads 0 and takes no write."
 use Rattle.std.specs.Prelude.{ℕ, ◌+◌, ◌*◌, ◌%◌, List, [], slice_index, slice_set}
+use Rattle.memory.specs.declared.Lent.{Lent}
 use Rattle.memory.specs.declared.Page.{Page}
 use Rattle.memory.specs.declared.Place.{Place}
 use Rattle.memory.specs.declared.Src.{Src}
@@ -17,6 +18,10 @@ pub record Mem : Type 0 where
 
 abbrev pub mem_of : List ℕ → List ℕ → List ℕ → List ℕ → List ℕ → Mem
 mem_of p c r i e = record { prg = p; chr = c; ram = r; ciram = i; exram = e }
+
+-- What the five hold that the code lends as one value.
+abbrev pub mem_in : Lent → Mem
+mem_in l = mem_of l.prg.now l.chr.now l.ram.now l.ciram.now l.exram.now
 
 -- The buffer that a source names. Blank has none: it "reads 0", as every place past a buffer's end does.
 abbrev pub buffer_of : Mem → Src → List ℕ

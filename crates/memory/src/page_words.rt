@@ -15,6 +15,7 @@ use crate::{Page, PageWord, Place, Src};
 //            | blank | ExRAM | PRG-ROM ..    .. CHR | CIRAM   | CHR ..   .. PRG-RAM |
 //            +-------+-------+----------------------+---------+---------------------+
 //                                          writable             unwritable
+#[tactic(auto, using(crate::proofs::WordLaws::bit_is), unfolding(crate::specs::PageWords::word_number))]
 pub fn word_of(src: Src, index: u32, writable: bool) -> PageWord
     ensures { result ≡ word_of (page src index writable) }
 {
@@ -23,19 +24,16 @@ pub fn word_of(src: Src, index: u32, writable: bool) -> PageWord
         Src::Blank => PageWord(0),
         Src::PrgRom => PageWord(3 + (index % 1024) as u16),
         Src::PrgRam => PageWord(65535 - (2 * (index % 64) as u16 + w)),
-        Src::Chr => {
-            if writable {
-                PageWord(2050 - (index % 1024) as u16)
-            } else {
-                PageWord(2055 + (index % 1024) as u16)
-            }
-        }
+        Src::Chr if writable => PageWord(2050 - (index % 1024) as u16),
+        Src::Chr => PageWord(2055 + (index % 1024) as u16),
         Src::CiRam => PageWord(2051 + 2 * (index % 2) as u16 + w),
         Src::ExRam => PageWord(1 + w),
     }
 }
 
-// CHR and CIRAM, which most fetches show, are asked first.
+// CHR and CIRAM, which most fetches show, are asked first. A `match` of ranges was tried: it is compiled to ask from the lowest run on, which
+// costs CHR six tests for two.
+#[tactic(auto, unfolding(crate::specs::PageWords::page_of))]
 pub fn page_of(word: PageWord) -> Page
     ensures { result ≡ page_of word }
 {
@@ -94,9 +92,8 @@ pub fn place_of(word: PageWord, offset: u16) -> Place
     ensures { result ≡ place_of (page_of word) offset }
 {
     let page = page_of(word);
-    let src = page.src;
     Place {
-        src,
+        src: page.src,
         offset: page.index as usize * 1024 + (offset % 1024) as usize,
     }
 }

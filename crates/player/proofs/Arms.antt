@@ -34,14 +34,12 @@ use Rattle.board_ppu.specs.Fetch.{pattern_pages, ppu_fetch}
 use Rattle.board_ppu.specs.Peeks.{chr_word_at, chr_answer}
 use Rattle.trace.specs.declared.Call.{Call}
 use Rattle.trace.specs.declared.Call.TheVariants.{Clock, CpuRead, CpuWrite, PpuRegister, PpuFetch, Reset, PpuWrite}
-use Rattle.trace.specs.declared.Found.TheVariants.{Record}
-use Rattle.trace.specs.Records.{record_at}
+use Rattle.trace.specs.Records.{Record, record_at}
 use Rattle.theorems_promises.proofs.Gates.{in_range_of}
 use Rattle.theorems_promises.proofs.Promised.{who_is_refused}
 use Rattle.theorems_promises.proofs.Refusals.{answer_is_given}
-use Rattle.player.specs.declared.Ending.TheVariants.{Stopped}
 use Rattle.logs.specs.Logs.{logged}
-use Rattle.player.specs.Replay.{Left, ended}
+use Rattle.player.specs.Replay.{Stopped, Left, ended}
 use Rattle.steps.specs.Sides.{chosen_at}
 use Rattle.steps.proofs.Idle.{set_fields, chosen_changes}
 use Rattle.board_ppu.proofs.Made

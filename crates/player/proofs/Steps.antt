@@ -2,7 +2,7 @@
 use Prim.Native.Nat.{ℕ, zero, suc, ◌+◌, ◌*◌, ◌-◌, ◌<◌, ◌≤◌}
 use mathlib.Core.Bool.{Bool}
 use mathlib.Core.List.{List}
-use mathlib.Core.Path.{◌≡◌, refl, sym, ◌∙◌}
+use mathlib.Core.Path.{◌≡◌, refl, sym, ap, ◌∙◌}
 use native.Mathlib.Omega.{arith}
 use mir.Syntax.{w64}
 use mir.Val.{Fits}
@@ -15,25 +15,23 @@ use Rattle.answers.specs.declared.Refusal.{Refusal}
 use Rattle.answers.specs.Letters.{value_of}
 use Rattle.answers.proofs.Cases.{accepted_goes_on}
 use Rattle.scanline.specs.Steps.{interrupt_up}
-use Rattle.state.specs.declared.gate.Gate.TheVariants.{Open}
 use Rattle.state.specs.declared.State.{State}
-use Rattle.state.specs.Gate.{gate_mem}
+use Rattle.state.specs.Gate.{Open, gate_mem}
 use Rattle.cpu.specs.Writes.{audio_write}
 use Rattle.board.specs.CpuSide.{cpu_write}
 use Rattle.board.specs.Outcomes.{outcome, after_of}
 use Rattle.board_ppu.specs.Peeks.{ppu_write}
 use Rattle.trace.specs.declared.Call.{Call}
 use Rattle.trace.specs.declared.Call.TheVariants.{Clock, CpuRead, CpuWrite, PpuRegister, PpuFetch, Reset, PpuWrite}
-use Rattle.trace.specs.declared.Found.TheVariants.{End, Record, Refused as Unreadable}
-use Rattle.trace.specs.Records.{record_at}
+use Rattle.std.specs.Prelude.{Option, Ok}
+use Rattle.trace.specs.Records.{Found, End, Record, Refused as Unreadable, record_at}
 use Rattle.trace.proofs.RecordLaws.{record_sound}
 use Rattle.calls.specs.Called.{called}
 use Rattle.theorems_promises.proofs.Gates.{SameSizes, same, page_stored_sizes, cpu_stored_sizes}
 use Rattle.theorems_promises.proofs.Promised.{gate_stays_open}
 use Rattle.theorems_promises.proofs.Refusals.{Given}
-use Rattle.player.specs.declared.Ending.TheVariants.{Done, Stopped}
 use Rattle.logs.specs.Logs.{log_letter, logged}
-use Rattle.player.specs.Replay.{Left, ended, played_from, played}
+use Rattle.player.specs.Replay.{Done, Stopped, Left, ended, played_from, played}
 
 -- Every call keeps the gate open.
 pub call_open : (call : Call) (s : State) (m : Mem) → gate_mem s m ≡ Open → gate_mem (called call s m).out.state (called call s m).mem ≡ Open
@@ -83,6 +81,10 @@ module _ {trace : List ℕ} {all : Left} {m₀ : Mem} {log₀ : List ℕ} {at co
 
   pub one_more : Fits w64 (count + 1)
   one_more = omega (arith, few)
+
+-- What stands at a place, by the parts of the pattern that it was matched with.
+pub read : {r here : Found} {o parts : Option (Call × ℕ)} → r ≡ here → r ≡ Ok o → o ≡ parts → here ≡ Ok parts
+read e i j = sym e ∙ i ∙ ap (λ (x : Option (Call × ℕ)). Ok x) j
 
 pub nearer : (trace : List ℕ) (at : ℕ) (call : Call) (next : ℕ) → record_at trace at ≡ Record call next → length trace - next < length trace - at
 nearer trace at call next found = let sound = record_sound trace at call next found in omega (arith, sound.onward, sound.inside)

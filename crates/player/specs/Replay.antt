@@ -1,6 +1,6 @@
 -- Replay: the board's calls, folded over the records of a trace. 01: "Replay stops at the first refused record and answers with that record's
 -- place, or with the record count." Assumes nothing.
-use Rattle.std.specs.Prelude.{ℕ, zero, suc, ◌+◌, List, length}
+use Rattle.std.specs.Prelude.{ℕ, zero, suc, ◌+◌, None, Some, Result, Ok, Err, List, length}
 use Rattle.memory.specs.Bytes.{Mem}
 use Rattle.memory.specs.Tests.{pick}
 use Rattle.answers.specs.declared.Refusal.{Refusal}
@@ -11,14 +11,21 @@ use Rattle.state.specs.declared.State.{State}
 use Rattle.state.specs.Gate.{gate_mem}
 use Rattle.board.specs.Outcomes.{behind}
 use Rattle.trace.specs.declared.Call.{Call}
-use Rattle.trace.specs.declared.Found.{Found}
-use Rattle.trace.specs.declared.Found.TheVariants.{End, Record, Refused as Unreadable}
-use Rattle.trace.specs.Records.{record_at, too_long}
+use Rattle.trace.specs.Records.{Found, record_at, too_long}
 use Rattle.calls.specs.Called.{called}
-use Rattle.player.specs.declared.Ending.{Ending}
-use Rattle.player.specs.declared.Ending.TheVariants.{Done, Stopped}
 use Rattle.player.specs.declared.Replayed.{Replayed}
+use Rattle.player.specs.declared.Stopped.{Stopped as PlaceAndRefusal}
 use Rattle.logs.specs.Logs.{logged}
+
+-- How a replay ends: with the record count, or with a refused record's place and why it is refused.
+abbrev pub Ending : Type 0
+Ending = Result ℕ PlaceAndRefusal
+
+abbrev pub Done : ℕ → Ending
+Done count = Ok count
+
+abbrev pub Stopped : ℕ → Refusal → Ending
+Stopped place why = Err (record { place = place; refusal = why })
 
 -- Everything that a replay leaves: its answer, the state, the five buffers and the log.
 pub record Left : Type 0 where
@@ -34,9 +41,9 @@ ended e s m log = left_of (record { ending = e; state = s }) m log
 
 -- What stands at a place: the end, an unreadable record, or a record.
 abbrev pub found : {A : Type 0} → Found → A → (Refusal → A) → (Call → ℕ → A) → A
-found End done stop play = done
-found (Unreadable why) done stop play = stop why
-found (Record call next) done stop play = play call next
+found (Ok None) done stop play = done
+found (Err why) done stop play = stop why
+found (Ok (Some (call, next))) done stop play = play call next
 
 -- The records from a place on, at most n of them; `count` records came before. "in replay, records before the refused one are accepted calls of the
 -- history": each call takes the state and the buffers as the call before it left them. The refused record changes nothing, and nothing after it is

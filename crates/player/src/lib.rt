@@ -1,24 +1,25 @@
 // Replay: a whole trace played over a board. 01, "Trace" and module 11. `plays` has the loop; specs/Replay.antt says what it comes to.
 #![tactic(auto)]
 
-ghost use Rattle.std.specs.Prelude.{◌≡◌};
+ghost use Rattle.std.specs.Prelude.{◌≡◌, Err};
 ghost use Rattle.memory.specs.Bytes.{mem_of};
-ghost use Rattle.player.specs.declared.Ending.TheVariants.{Stopped};
 ghost use Rattle.player.specs.Promise.{Enough};
 ghost use Rattle.player.specs.Replay.{left_of, replayed};
 
 use answers::Refusal;
 use state::State;
-use state::gate::Gate;
 
 pub mod plays;
 
-// "answers with that record's place, or with the record count"
+// Where a replay stopped, and why.
 #[derive(Clone, Copy)]
-pub enum Ending {
-    Done(usize),
-    Stopped(usize, Refusal),
+pub struct Stopped {
+    pub place: usize,
+    pub refusal: Refusal,
 }
+
+// "answers with that record's place, or with the record count"
+pub type Ending = Result<usize, Stopped>;
 
 // What a replay gives back.
 #[derive(Clone, Copy)]
@@ -29,10 +30,10 @@ pub struct Replayed {
 
 // A trace that is refused before its first record.
 fn refuse(s: State, refusal: Refusal) -> Replayed
-    ensures { result ≡ record { ending = Stopped 0 refusal; state = s } }
+    ensures { result ≡ record { ending = Err (record { place = 0; refusal = refusal }); state = s } }
 {
     Replayed {
-        ending: Ending::Stopped(0, refusal),
+        ending: Err(Stopped { place: 0, refusal }),
         state: s,
     }
 }
@@ -55,7 +56,7 @@ pub fn replay(
         return refuse(s, Refusal::Length);
     }
     let gate = state::gate::passed(s, prg.len(), chr.len(), ram.len(), ciram.len(), exram.len());
-    if let Gate::Shut(refusal) = gate {
+    if let Err(refusal) = gate {
         return refuse(s, refusal);
     }
     plays::play(s, trace, prg, chr, ram, ciram, exram, log)

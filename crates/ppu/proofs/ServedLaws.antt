@@ -1,9 +1,11 @@
 -- The first that answers, or else the page: a test for each in turn, and the page behind them.
 use Prim.Native.Nat.{ℕ, ◌/◌}
-use mathlib.Core.Bool.{Bool, true, false, ◌&&◌, not}
-use mathlib.Core.List.{List, [], ◌∷◌}
-use mathlib.Core.Path.{◌≡◌, refl}
+use mathlib.Core.Bool.{Bool, ◌&&◌, not}
+use mathlib.Core.List.{List}
+use mathlib.Core.Path.{◌≡◌}
+use native.Mathlib.Omega.{arith}
 use lib.Dec.{eqb}
+use Rattle.std.proofs.lemmas.Grind.{common_steps}
 use lib.ListN.{get_or}
 use Rattle.memory.specs.Tests.{pick}
 use Rattle.answers.specs.declared.Answer.{Answer}
@@ -18,17 +20,7 @@ use Rattle.split.specs.declared.VSplit.{VSplit}
 use Rattle.split.specs.Places.{mirrored_byte, pattern_offset}
 use Rattle.split.specs.Region.{scroll_of}
 use Rattle.state.specs.declared.PpuStatus.{PpuStatus}
-use Rattle.ppu.specs.Served.{direct, ex_offset, split_byte, fill_byte, split_serves, given, served, counted_served, pattern_served}
-
-of_two : (b c : Bool) (x y : ℕ) (page : Answer) → served (given b x ∷ given c y ∷ []) page ≡ pick b (Served x) (pick c (Served y) page)
-of_two true c x y page = refl
-of_two false true x y page = refl
-of_two false false x y page = refl
-
-of_three : (b c d : Bool) (x y z : ℕ) (page : Answer)
-    → served (given b x ∷ given c y ∷ given d z ∷ []) page ≡ pick b (Served x) (pick c (Served y) (pick d (Served z) page))
-of_three true c d x y z page = refl
-of_three false c d x y z page = of_two c d y z page
+use Rattle.ppu.specs.Served.{direct, ex_offset, split_byte, fill_byte, split_serves, counted_served, pattern_served}
 
 pub counted_is : (g : Regs) (v : VSplit) (framed : Bool) (p : PpuStatus) (exram : List ℕ) (a : ℕ) (page : Answer)
     → counted_served g v framed p exram a page ≡
@@ -37,9 +29,7 @@ pub counted_is : (g : Regs) (v : VSplit) (framed : Bool) (p : PpuStatus) (exram 
     (pick (nametable_use g && eqb (selector g.nametables (a / 1024)) 3) (Served (fill_byte g (attribute_at a)))
     page)))
 unfolding counted_served
-counted_is g v framed p exram a page =
-    of_three (split_serves g v framed) (attribute_use g && (attribute_at a && not (sprite_fetch p.tile_number)))
-    (nametable_use g && eqb (selector g.nametables (a / 1024)) 3) _ _ _ page
+counted_is g v framed p exram a page = grind (arith, common_steps)
 
 pub pattern_is : (g : Regs) (v : VSplit) (d : Detector) (p : PpuStatus) (exram chr : List ℕ) (a : ℕ) (page : Answer)
     → pattern_served g v d p exram chr a page ≡
@@ -48,5 +38,4 @@ pub pattern_is : (g : Regs) (v : VSplit) (d : Detector) (p : PpuStatus) (exram c
     (pick (attribute_use g && not (sprite_fetch p.tile_number)) (Served (direct chr (ex_offset g.chr_hi (get_or exram p.tile_cache 0) a)))
     page))
 unfolding pattern_served
-pattern_is g v d p exram chr a page =
-    of_two (split_serves g v d.in_frame) (attribute_use g && not (sprite_fetch p.tile_number)) _ _ page
+pattern_is g v d p exram chr a page = grind (arith, common_steps)

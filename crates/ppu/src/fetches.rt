@@ -11,33 +11,36 @@ use split::VSplit;
 use state::PpuStatus;
 
 // The tile cache: the address's low ten bits, in attribute mode, not at an attribute address, outside the sprites' fetches.
+#[tactic(auto, unfolding(crate::specs::Cache::cache_after))]
 fn cache_after(regs: Regs, cache: u16, raised: u32, addr: PpuAddr) -> u16
     ensures { result ≡ cache_after regs cache raised addr.0 }
 {
     let by_tile = registers::attribute_use(regs);
     let attribute = scanline::tiles::attribute_address(addr);
     let sprites = scanline::tiles::sprite_fetch(raised);
-    if by_tile & (!attribute & !sprites) {
-        return addr.0 % 1024;
+    if by_tile & !attribute & !sprites {
+        addr.0 % 1024
+    } else {
+        cache
     }
-    cache
 }
 
 // The tile count and the tile cache after a fetch at $2000-$3EFF, which left `matches` in the detector.
+#[tactic(auto, unfolding(crate::specs::Fetches::ppu_seen))]
 pub fn ppu_seen(regs: Regs, matches: u8, p: PpuStatus, addr: PpuAddr) -> PpuStatus
     requires { tiles_ok p.tile_number ≡ true }
     ensures { result ≡ ppu_seen regs matches p addr.0 }
 {
     let raised = scanline::tiles::tiles_raised(p.tile_number, addr);
-    let cache = cache_after(regs, p.tile_cache, raised, addr);
-    let tiles = scanline::tiles::tiles_after(matches, raised);
-    let mut next = p;
-    next.tile_cache = cache;
-    next.tile_number = tiles;
-    next
+    PpuStatus {
+        tile_cache: cache_after(regs, p.tile_cache, raised, addr),
+        tile_number: scanline::tiles::tiles_after(matches, raised),
+        ..p
+    }
 }
 
 // The split's region after a fetch: a name fetch moves it while the split is active. Detector and tile count are those after the fetch.
+#[tactic(auto, unfolding(crate::specs::Fetches::split_seen, scanline::specs::Tiles::column_of))]
 pub fn split_seen(regs: Regs, v: VSplit, irq: Detector, tiles: u32, addr: PpuAddr) -> VSplit
     requires { tiles_ok tiles ≡ true }
     ensures { result ≡ split_seen regs v irq tiles addr.0 }
@@ -50,7 +53,8 @@ pub fn split_seen(regs: Regs, v: VSplit, irq: Detector, tiles: u32, addr: PpuAdd
         let first = scanline::tiles::first_tiles(tiles);
         let ahead = scanline::tiles::prefetched(tiles);
         let scroll = split::region::scroll_of(irq.scanline, ahead, v.scroll);
-        return split::region::moved(v, column, first, scroll);
+        split::region::moved(v, column, first, scroll)
+    } else {
+        v
     }
-    v
 }

@@ -1,5 +1,5 @@
 // What is served in the page's place, in the order split, attribute mode, fill; else the page's answer. Nothing changes here.
-ghost use Rattle.std.specs.Prelude.{◌≡◌, ◌&&◌, not, get_or};
+ghost use Rattle.std.specs.Prelude.{◌≡◌};
 ghost use Rattle.ppu.specs.Served.{direct, ex_offset, split_byte, fill_byte, counted_served, pattern_served, sprite_byte};
 
 use answers::Answer;
@@ -10,24 +10,27 @@ use split::VSplit;
 use state::PpuStatus;
 
 // A byte of CHR by its offset, taken modulo the length; empty CHR has 0.
+#[tactic(auto, unfolding(crate::specs::Served::direct))]
 pub fn direct_byte(chr: &[u8], offset: usize) -> u8
     ensures { result ≡ direct chr.now offset }
 {
-    if chr.len() == 0 {
-        return 0;
+    if chr.is_empty() {
+        0
+    } else {
+        chr[offset % chr.len()]
     }
-    let at = offset % chr.len();
-    chr[at]
 }
 
 // In attribute mode: the CHR offset that a tile's ExRAM byte and $5130 name.
+#[tactic(auto, unfolding(crate::specs::Served::ex_offset))]
 pub fn ex_offset(hi: u16, byte: u8, addr: PpuAddr) -> u32
     ensures { result ≡ ex_offset hi byte addr.0 }
 {
-    (hi as u32 * 1024) | ((byte % 64) as u32 * 4096) | (addr.0 % 4096) as u32
+    ((hi as u32) << 10) | ((byte as u32 & 0x3F) << 12) | (addr.0 as u32 & 0xFFF)
 }
 
 // In the split's region: the tile's number for a name fetch, else its attribute.
+#[tactic(auto, unfolding(crate::specs::Served::split_byte))]
 fn split_byte(v: VSplit, exram: &[u8], name: bool) -> u8
     ensures { result ≡ split_byte v exram.now name }
 {
@@ -52,6 +55,7 @@ fn fill_byte(regs: Regs, attribute: bool) -> u8
 }
 
 // At $2000-$3EFF.
+#[tactic(auto, unfolding(crate::specs::Served::counted_served))]
 pub fn counted_served(
     regs: Regs,
     v: VSplit,
@@ -72,7 +76,7 @@ pub fn counted_served(
     }
     let sprites = scanline::tiles::sprite_fetch(p.tile_number);
     let by_tile = registers::attribute_use(regs);
-    if by_tile & (attribute & !sprites) {
+    if by_tile & attribute & !sprites {
         let byte = memory::bytes::byte(exram, p.tile_cache as usize);
         return Answer::Served(split::places::mirrored(byte / 64));
     }
@@ -84,6 +88,7 @@ pub fn counted_served(
 }
 
 // At $0000-$1FFF.
+#[tactic(auto, unfolding(crate::specs::Served::pattern_served))]
 pub fn pattern_served(
     regs: Regs,
     v: VSplit,
@@ -115,6 +120,7 @@ pub fn pattern_served(
 }
 
 // The byte that the sprites' set would map at a pattern address.
+#[tactic(auto, unfolding(crate::specs::Served::sprite_byte))]
 pub fn sprite_byte(regs: Regs, banks: [u8; 16], chr: &[u8], addr: PpuAddr) -> u8
     ensures { result ≡ sprite_byte regs banks chr.now addr.0 }
 {

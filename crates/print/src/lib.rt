@@ -1,4 +1,4 @@
-// Text and numbers on standard output, and bytes of standard input, for the programs that are held to a stored output.
+// The start of a text on standard output, and bytes of standard input, for the programs that are held to a stored output.
 #![tactic(auto)]
 
 ghost use Rattle.std.specs.Prelude.{◌≤◌, length, IfOk};
@@ -6,25 +6,18 @@ ghost use Rattle.std.specs.Prelude.{◌≤◌, length, IfOk};
 use std::io;
 use std::io::Read;
 
-pub fn print_text(rt: &impl Print, bytes: &[u8]) -> io::Result<()> {
-    rt.write_all(bytes)
-}
-
-pub fn print_number(rt: &impl Print, n: u64) -> io::Result<()> {
-    rt.print(n)
-}
-
-// The first n bytes of a text, where it has so many.
+// The first n bytes of a text, where it has so many: what writes into a lent buffer gives a length beside it, for there is no heap.
 pub fn print_first(rt: &impl Print, text: &[u8], n: usize) -> io::Result<()> {
-    if n <= text.len() {
-        return rt.write_all(&text[..n]);
+    match text.get(..n) {
+        Some(first) => rt.write_all(first),
+        None => Ok(()),
     }
-    Ok(())
 }
 
-// Reads until `bytes` is full or standard input ends; how many bytes stand at the start of `bytes`.
-pub fn read_input(rt: &impl Input, bytes: &mut [u8]) -> io::Result<usize>
-    ensures { IfOk result (λ n. n ≤ length bytes.new) }
+// Reads until `bytes` is full or standard input ends; the start of `bytes` that was read. The loop counts by hand: std's `read_exact` fails where
+// the input is shorter, `read_to_end` allocates, and `copy` says nothing of the count.
+pub fn read_input<'a>(rt: &impl Input, bytes: &'a mut [u8]) -> io::Result<&'a [u8]>
+    ensures { IfOk result (λ read. length read.now ≤ length bytes.old) }
 {
     let mut input = rt.reader();
     let mut done = 0;
@@ -35,5 +28,5 @@ pub fn read_input(rt: &impl Input, bytes: &mut [u8]) -> io::Result<usize>
         }
         done += n;
     }
-    Ok(done)
+    Ok(&bytes[..done])
 }

@@ -5,6 +5,16 @@ use Rattle.memory.specs.Tests.{pick}
 use Rattle.registers.specs.declared.Mirroring.{Mirroring}
 use Rattle.registers.specs.declared.Mirroring.TheVariants.{Horizontal, Vertical, SingleScreenA, SingleScreenB, FourScreen}
 
+-- The five mirrorings by number; FourScreen is 4, and what is above.
+abbrev pub mirroring_numbered : ℕ → Mirroring
+mirroring_numbered n =
+    pick (eqb n 0) Horizontal
+    (pick (eqb n 1) Vertical
+    (pick (eqb n 2) SingleScreenA
+    (pick (eqb n 3) SingleScreenB
+    FourScreen)))
+
+-- What $5105 makes of it.
 abbrev pub mirroring_of : ℕ → Mirroring
 mirroring_of v =
     pick (eqb v 0x50) Horizontal

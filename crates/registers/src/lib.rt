@@ -5,12 +5,13 @@
 ghost use Rattle.std.specs.Prelude.{◌≡◌};
 ghost use Rattle.memory.specs.Tests.{pick};
 ghost use Rattle.registers.specs.Registers.{regs_at_load, reset_regs, written, attribute_use, nametable_use, unlocked, regs_ok};
-ghost use Rattle.registers.specs.Mirrorings.{mirroring_of, mirroring_after};
+ghost use Rattle.registers.specs.Mirrorings.{mirroring_numbered, mirroring_of, mirroring_after};
 
 use memory::CpuAddr;
 
-// `exram_chosen` says that $5104 was written: nametable use is off before.
-#[derive(Clone, Copy)]
+// `exram_chosen` says that $5104 was written: nametable use is off before. It is no `Option` of the mode, which is 0 before, and read and gone by. By default all is 0 and off, as in the state of a refused load.
+// Modes are numbers and no enums: 01 has "mode numbers 0-3", and a state handed in with another is refused with 5 (program `test_bad_input`, mode 4).
+#[derive(Clone, Copy, Debug, PartialEq, Eq, Default)]
 pub struct Regs {
     pub prg_mode: u8,
     pub chr_mode: u8,
@@ -26,13 +27,29 @@ pub struct Regs {
     pub multiplier: u8,
 }
 
-#[derive(Clone, Copy)]
+// With Rust's numbers, 0 to 4: `as` gives them, and `from` goes back.
+#[derive(Clone, Copy, Debug, PartialEq, Eq)]
 pub enum Mirroring {
     Horizontal,
     Vertical,
     SingleScreenA,
     SingleScreenB,
     FourScreen,
+}
+
+// A number above 4 is no other mirroring: it counts as FourScreen.
+impl From<u16> for Mirroring {
+    ghost from_gives = { λ n m. m ≡ mirroring_numbered n };
+
+    fn from(n: u16) -> Mirroring {
+        match n {
+            0 => Mirroring::Horizontal,
+            1 => Mirroring::Vertical,
+            2 => Mirroring::SingleScreenA,
+            3 => Mirroring::SingleScreenB,
+            _ => Mirroring::FourScreen,
+        }
+    }
 }
 
 // As load leaves them.
@@ -59,10 +76,11 @@ pub fn new() -> Regs
 pub fn reset(regs: Regs) -> Regs
     ensures { result ≡ reset_regs regs }
 {
-    let mut next = regs;
-    next.prg_mode = 3;
-    next.chr_mode = 3;
-    next
+    Regs {
+        prg_mode: 3,
+        chr_mode: 3,
+        ..regs
+    }
 }
 
 // ExRAM holds attributes.
@@ -90,17 +108,17 @@ pub fn unlocked(regs: Regs) -> bool
 fn chr_mode_for(regs: Regs, mode: u8) -> u8
     ensures { result ≡ pick (attribute_use regs) 1 mode }
 {
-    if regs.exram_mode == 1 { 1 } else { mode }
+    if attribute_use(regs) { 1 } else { mode }
 }
 
 // A CPU write.
+#[tactic(auto, unfolding(crate::specs::Registers::written))]
 pub fn write(regs: Regs, addr: CpuAddr, val: u8) -> Regs
     ensures { result ≡ written regs addr.0 val }
 {
     let mut next = regs;
     let low = val % 4;
-    let a = addr.0;
-    match a {
+    match addr.0 {
         0x5100 => next.prg_mode = low,
         0x5101 => next.chr_mode = chr_mode_for(regs, low),
         0x5102 => next.protect_a = low,
@@ -144,6 +162,7 @@ pub fn mirroring_after(mirroring: Mirroring, addr: CpuAddr, val: u8) -> Mirrorin
 }
 
 // "fill attribute and mode numbers 0-3; protect bytes 0-3; .. `chr_hi` one of 0, 256, 512, 768"
+#[tactic(auto, unfolding(crate::specs::Registers::regs_ok))]
 pub fn ranges_ok(regs: Regs) -> bool
     ensures { result ≡ regs_ok regs }
 {

@@ -5,11 +5,11 @@
 
 use std::io;
 
-// The text stands whole in `out`: `TranscriptIsHistory.whole`, crates/theorems_host/specs/Printed.antt.
+// No heap: both buffers are fixed. The text stands whole in `out`: `TranscriptIsHistory.whole`, crates/theorems_host/specs/Printed.antt.
 fn main(rt: HostRuntime) -> io::Result<()> {
     let mut input = [0u8; 65536];
     let mut out = [0u8; 131072];
-    let n = print::read_input(&rt, &mut input)?;
-    let length = transcript::cartridge::transcribe(&mut out, &input[..n]);
+    let trace = print::read_input(&rt, &mut input)?;
+    let length = transcript::cartridge::transcribe(&mut out, trace);
     print::print_first(&rt, &out, length)
 }

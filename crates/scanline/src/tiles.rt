@@ -1,6 +1,8 @@
 // The tile count: name fetches so far in a line, kept as one of 84 numbers, and the four ways in which the board looks at it. Beside it, which
 // fetches count. 01, modules 5, 6 and 8, and "Fetches, runs, breaks", and CR 7; in the Rust, `tile_number`. Nothing outside this file looks at the
 // count's digits.
+#![tactic(auto, unfolding(crate::specs::Tiles::sprite_fetch, crate::specs::Tiles::column_of, crate::specs::Tiles::is_prefetched, crate::specs::Tiles::is_first, crate::specs::Tiles::tiles_ok, crate::specs::Tiles::next_tile))]
+
 ghost use Rattle.std.specs.Prelude.{◌≡◌, true};
 ghost use Rattle.scanline.specs.Fetches.{counted_at, attribute_at, name_at};
 ghost use Rattle.scanline.specs.Tiles.{sprite_fetch, column_of, is_prefetched, is_first, tiles_ok, next_tile, raised_by, left_after};
@@ -11,7 +13,7 @@ use memory::PpuAddr;
 pub fn counted(addr: PpuAddr) -> bool
     ensures { result ≡ counted_at addr.0 }
 {
-    (addr.0 >= 0x2000) & (addr.0 <= 0x3EFF)
+    (0x2000..=0x3EFF).contains(&addr.0)
 }
 
 pub fn attribute_address(addr: PpuAddr) -> bool
@@ -23,14 +25,14 @@ pub fn attribute_address(addr: PpuAddr) -> bool
 pub fn name_fetch(addr: PpuAddr) -> bool
     ensures { result ≡ name_at addr.0 }
 {
-    (addr.0 >= 0x2000) & ((addr.0 <= 0x2FFF) & !attribute_address(addr))
+    (0x2000..=0x2FFF).contains(&addr.0) & !attribute_address(addr)
 }
 
 // Name fetches 32-39 of a line are those that the PPU makes while it fetches sprite patterns.
 pub fn sprite_fetch(tiles: u32) -> bool
     ensures { result ≡ sprite_fetch tiles }
 {
-    (tiles >= 32) & (tiles <= 39)
+    (32..=39).contains(&tiles)
 }
 
 // The two tiles fetched ahead at the end of the line before are columns 0 and 1.
@@ -54,7 +56,8 @@ pub fn first_tiles(tiles: u32) -> bool
     tiles < 42
 }
 
-// The range of the state's tile count.
+// The range of the state's tile count. A test, and no type of its own: program `test_bad_input` hands in states that break it, and README offers each crate
+// to emulators, so no function may ask for more than it did.
 pub fn tiles_ok(tiles: u32) -> bool
     ensures { result ≡ tiles_ok tiles }
 {
@@ -66,10 +69,7 @@ fn next_tile(tiles: u32) -> u32
     requires { tiles_ok tiles ≡ true }
     ensures { result ≡ next_tile tiles }
 {
-    if tiles == 83 {
-        return 42;
-    }
-    tiles + 1
+    if tiles == 83 { 42 } else { tiles + 1 }
 }
 
 // As the tile cache finds the count: one more for a name fetch.
@@ -78,9 +78,10 @@ pub fn tiles_raised(tiles: u32, addr: PpuAddr) -> u32
     ensures { result ≡ raised_by tiles addr.0 }
 {
     if name_fetch(addr) {
-        return next_tile(tiles);
+        next_tile(tiles)
+    } else {
+        tiles
     }
-    tiles
 }
 
 // As the split finds the count that was raised: the third of a run, and each equal after it, starts it anew. `matches` is the match
@@ -88,8 +89,5 @@ pub fn tiles_raised(tiles: u32, addr: PpuAddr) -> u32
 pub fn tiles_after(matches: u8, raised: u32) -> u32
     ensures { result ≡ left_after matches raised }
 {
-    if matches > 1 {
-        return 0;
-    }
-    raised
+    if matches > 1 { 0 } else { raised }
 }

@@ -7,52 +7,40 @@ use crate::VSplit;
 pub fn new() -> VSplit
     ensures { result ≡ split_at_load }
 {
-    VSplit {
-        mode: 0,
-        enabled: false,
-        right: false,
-        tile: 0,
-        scroll: 0,
-        bank: 0,
-        in_region: false,
-        tile_addr: 0,
-    }
+    VSplit::default()
 }
 
 // $5200    [ES.T TTTT]    enable, side, tile to split at
 pub fn set_control(v: VSplit, val: u8) -> VSplit
     ensures { result ≡ with_control v val }
 {
-    let mut t = v;
-    t.mode = val;
-    t.enabled = val / 128 % 2 == 1;
-    t.right = val / 64 % 2 == 1;
-    t.tile = val % 32;
-    t
+    VSplit {
+        mode: val,
+        enabled: val >> 7 == 1,
+        right: (val >> 6) % 2 == 1,
+        tile: val % 32,
+        ..v
+    }
 }
 
 // $5201    [YYYY YYYY]    the split's own scroll
 pub fn set_scroll(v: VSplit, val: u8) -> VSplit
     ensures { result ≡ with_scroll v val }
 {
-    let mut t = v;
-    t.scroll = val;
-    t
+    VSplit { scroll: val, ..v }
 }
 
 // $5202    [CCCC CCCC]    the split's own 4k page of CHR
 pub fn set_bank(v: VSplit, val: u8) -> VSplit
     ensures { result ≡ with_bank v val }
 {
-    let mut t = v;
-    t.bank = val;
-    t
+    VSplit { bank: val, ..v }
 }
 
 pub fn active(v: VSplit, nametable_use: bool, in_frame: bool) -> bool
     ensures { result ≡ split_active v nametable_use in_frame }
 {
-    v.enabled & (nametable_use & in_frame)
+    v.enabled & nametable_use & in_frame
 }
 
 pub fn ranges_ok(v: VSplit) -> bool

@@ -11,7 +11,7 @@ pub mod places;
 pub mod region;
 
 // After the Rust's `VSplit`. `right` is its `Side::Right`.
-#[derive(Clone, Copy)]
+#[derive(Clone, Copy, Debug, PartialEq, Eq, Default)]
 pub struct VSplit {
     pub mode: u8,
     pub enabled: bool,
@@ -27,7 +27,7 @@ pub struct VSplit {
 }
 
 // Where in ExRAM the attribute byte of a split tile stands, and how far its two bits are shifted.
-#[derive(Clone, Copy)]
+#[derive(Clone, Copy, Debug, PartialEq, Eq)]
 pub struct AttributePlace {
     pub addr: u16,
     pub shift: u8,

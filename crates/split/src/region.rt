@@ -20,45 +20,48 @@ pub fn scroll_of(line: u16, prefetched: bool, y: u8) -> u16
 }
 
 // A line of tiles begins at column 0.
+#[tactic(auto, unfolding(crate::specs::Region::side_at))]
 fn side_at(v: VSplit, column: u16) -> bool
     ensures { result ≡ side_at v column }
 {
-    if column == 0 {
-        return !v.right;
-    }
-    v.in_region
+    if column == 0 { !v.right } else { v.in_region }
 }
 
 // Columns above 32 are no columns of the screen: among them are the fetches made beside those of sprite patterns.
+#[tactic(auto, unfolding(crate::specs::Region::region_at))]
 fn region_at(v: VSplit, column: u16, first: bool) -> bool
     ensures { result ≡ region_at v column first }
 {
     let side = side_at(v, column);
     if (column == v.tile as u16) & first {
-        return !side;
+        !side
+    } else {
+        side & (column <= 32)
     }
-    if column > 32 {
-        return false;
-    }
-    side
 }
 
 // A row of 32 tiles for each eight lines. Column 32 is no tile of a row: it is or-ed in, not added.
+#[tactic(auto, unfolding(crate::specs::Region::split_address))]
 fn address_of(scroll: u16, column: u16) -> u16
     ensures { result ≡ split_address scroll column }
 {
-    (scroll / 8 % 32 * 32) | column
+    ((scroll & 0xF8) << 2) | column
 }
 
+#[tactic(auto, unfolding(crate::specs::Region::after_name))]
 pub fn moved(v: VSplit, column: u16, first: bool, scroll: u16) -> VSplit
     ensures { result ≡ after_name v column first scroll }
 {
-    let mut t = v;
     if region_at(v, column, first) {
-        t.in_region = true;
-        t.tile_addr = address_of(scroll, column);
-        return t;
+        VSplit {
+            in_region: true,
+            tile_addr: address_of(scroll, column),
+            ..v
+        }
+    } else {
+        VSplit {
+            in_region: false,
+            ..v
+        }
     }
-    t.in_region = false;
-    t
 }

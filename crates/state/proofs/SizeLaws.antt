@@ -1,9 +1,8 @@
 -- What the recorded lengths are, where they pass load: facts with names.
-use Prim.Native.Nat.{ℕ, ◌%◌, ◌≤◌, ◌<◌}
+use Prim.Native.Nat.{ℕ, ◌%◌, ◌≤◌}
 use mathlib.Core.Bool.{Bool, true}
 use mathlib.Core.List.{[], ◌∷◌}
 use mathlib.Core.Path.{◌≡◌}
-use native.Mathlib.Omega.{arith}
 use borrow.Author.Tests.{leb-true, eqb-true}
 use lib.Dec.{eqb, leb}
 use Rattle.memory.proofs.Tests.{conj_at}
@@ -47,24 +46,3 @@ pub lengths_hold : (p c r i e : ℕ) (w : Bool) → prg_taken p ≡ true → chr
     → lengths_ok (record { loaded = true; prg = p; chr = c; ram = r; ciram = i; exram = e; chr_writable = w }) ≡ true
 unfolding lengths_ok
 lengths_hold p c r i e w hp hc hr = rw (hp, hc, hr)
-
--- Each length that load takes fits 32 bits.
-pub prg_fits : (p : ℕ) → prg_taken p ≡ true → p < 4294967296
-prg_fits p h = omega (arith, leb-true p 1048576 (conj_at (eqb (p % 8192) 0 ∷ leb 8192 p ∷ leb p 1048576 ∷ []) 2 h))
-
-pub chr_fits : (c : ℕ) → chr_taken c ≡ true → c < 4294967296
-chr_fits c h = omega (arith, leb-true c 1048576 (conj_at (eqb (c % 1024) 0 ∷ leb c 1048576 ∷ []) 1 h))
-
-pub record RamFits (r i e : ℕ) : Type 0 where
-  pub ram : r < 4294967296
-  pub ciram : i < 4294967296
-  pub exram : e < 4294967296
-
-pub ram_fits : (r i e : ℕ) → ram_taken r i e ≡ true → RamFits r i e
-ram_fits r i e h =
-    let at = conj_at (eqb (r % 1024) 0 ∷ leb r 65536 ∷ eqb i 2048 ∷ eqb e 1024 ∷ []) in
-    record {
-      ram = omega (arith, leb-true r 65536 (at 1 h));
-      ciram = omega (arith, eqb-true i 2048 (at 2 h));
-      exram = omega (arith, eqb-true e 1024 (at 3 h));
-    }

@@ -5,13 +5,8 @@ ghost use Rattle.state.specs.Gate.{same_lengths, gate_of};
 use crate::{Lengths, State, ranges};
 use answers::Refusal;
 
-#[derive(Clone, Copy)]
-pub enum Gate {
-    Open,
-    Shut(Refusal),
-}
-
 // The lent lengths are those recorded.
+#[tactic(auto, unfolding(crate::specs::Gate::same_lengths))]
 pub fn same_lengths(
     z: Lengths,
     prg: usize,
@@ -29,20 +24,26 @@ pub fn same_lengths(
 }
 
 // The lengths of the five lent buffers against the state.
-pub fn passed(s: State, prg: usize, chr: usize, ram: usize, ciram: usize, exram: usize) -> Gate
+#[tactic(auto, unfolding(crate::specs::Gate::gate_of))]
+pub fn passed(
+    s: State,
+    prg: usize,
+    chr: usize,
+    ram: usize,
+    ciram: usize,
+    exram: usize,
+) -> Result<(), Refusal>
     ensures { result ≡ gate_of s prg chr ram ciram exram }
 {
     let z = s.lengths;
     if !z.loaded {
-        return Gate::Shut(Refusal::State);
+        return Err(Refusal::State);
     }
-    let same = same_lengths(z, prg, chr, ram, ciram, exram);
-    if !same {
-        return Gate::Shut(Refusal::Buffers);
+    if !same_lengths(z, prg, chr, ram, ciram, exram) {
+        return Err(Refusal::Buffers);
     }
-    let ok = ranges::in_range(s);
-    if !ok {
-        return Gate::Shut(Refusal::State);
+    if !ranges::in_range(s) {
+        return Err(Refusal::State);
     }
-    Gate::Open
+    Ok(())
 }

@@ -14,8 +14,9 @@ use registers::{Mirroring, Regs};
 use scanline::Detector;
 use split::VSplit;
 
-// The lengths that load took, and whether it took CHR as RAM.
-#[derive(Clone, Copy)]
+// The lengths that load took, and whether it took CHR as RAM. `loaded` with them is no `Option` of lengths: the host's words 16 and 39 to 41 hold both,
+// and `WordsAndStates` (crate `host_state`) has words for each state.
+#[derive(Clone, Copy, Default)]
 pub struct Lengths {
     pub loaded: bool,
     pub prg: u32,
@@ -28,7 +29,7 @@ pub struct Lengths {
 
 // After the Rust's `PpuStatus`, with its `tile_cache`, `chr_set` and `last_chr_write`: `bg_set` says that the CHR table holds the
 // background's set, `bg_written` that the last CHR write was one to it.
-#[derive(Clone, Copy)]
+#[derive(Clone, Copy, Default)]
 pub struct PpuStatus {
     pub tile_number: u32,
     pub tile_cache: u16,

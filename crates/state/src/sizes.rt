@@ -23,6 +23,7 @@ pub fn ram_taken(ram: usize, ciram: usize, exram: usize) -> bool
 }
 
 // "recorded lengths pass load"
+#[tactic(auto, unfolding(crate::specs::Lengths::lengths_ok))]
 pub fn lengths_ok(z: Lengths) -> bool
     ensures { result ≡ lengths_ok z }
 {

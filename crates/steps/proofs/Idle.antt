@@ -1,17 +1,17 @@
 -- Which groups a CPU call leaves as they are, by its address. The registers lie from $5100 to $5206: outside a read answers the page and a write
 -- changes no group; and a write that maps PRG pages changes nothing of the other side.
 use Prim.Native.Nat.{ℕ, zero, suc, ◌+◌, ◌/◌, ◌<◌}
-use mathlib.Core.Bool.{Bool, true, false, ◌&&◌, ◌||◌, false≢true}
+use mathlib.Core.Bool.{Bool, true, false}
 use mathlib.Core.List.{List}
-use mathlib.Core.Path.{◌≡◌, refl, sym, ◌∙◌, ap}
+use mathlib.Core.Path.{◌≡◌, refl, ◌∙◌, ap}
 use native.Mathlib.Omega.{arith}
-use borrow.Author.Tests.{leb-true, le-leb, ltb-true, ne_eqb, eqb-true}
-use lib.Dec.{eqb, leb, ltb}
+use Rattle.std.proofs.lemmas.Grind.{common_steps}
+use lib.Dec.{eqb}
 use lib.ListN.{get_or, set}
 use lib.Seq.{set-get_or, get_or-set_other}
 use Rattle.memory.specs.declared.PageWord.{PageWord}
 use Rattle.memory.specs.PageWords.{word}
-use Rattle.memory.proofs.Tests.{split, pick_keeps, and_left, and_right, and_both}
+use Rattle.memory.proofs.Tests.{split, pick_keeps}
 use Rattle.answers.specs.declared.Answer.{Answer}
 use Rattle.registers.specs.declared.Mirroring.{Mirroring}
 use Rattle.registers.specs.declared.Regs.{Regs}
@@ -29,116 +29,16 @@ use Rattle.cpu.specs.Reads.{register_at, register_read}
 use Rattle.cpu.specs.Writes.{maps_prg, prg_pages_after, chr_pages_after, register_written, prg_word_at}
 use Rattle.steps.specs.Sides.{exram_word, chosen_at}
 
--- An address apart from a range is apart from what lies in it.
-pub apart_eqb : (lo hi n a : ℕ) → within lo hi n ≡ true → within lo hi a ≡ false → eqb a n ≡ false
-apart_eqb lo hi n a i o = ne_eqb a n (λ e. false≢true (sym o ∙ ap (within lo hi) e ∙ i))
+-- No register is read.
+pub read_idle : (a : ℕ) → within 0x5100 0x5206 a ≡ false
+    → (g : Regs) (v : VSplit) (d : Detector) (prg chr : List ℕ) (page : Answer) → register_read g v d prg chr a page ≡ page
+unfolding register_read register_at
+read_idle a o g v d prg chr page = grind (arith, common_steps)
 
-pub apart_within : (lo hi l h a : ℕ) → leb lo l && leb h hi ≡ true → within lo hi a ≡ false → within l h a ≡ false
-apart_within lo hi l h a i o =
-    split (within l h a)
-    (λ t. absurd (false≢true (sym o ∙ and_both (leb lo a) (leb a hi)
-    (le-leb lo a (omega (arith, leb-true lo l (and_left (leb lo l) (leb h hi) i), leb-true l a (and_left (leb l a) (leb a h) t))))
-    (le-leb a hi (omega (arith, leb-true h hi (and_right (leb lo l) (leb h hi) i), leb-true a h (and_right (leb l a) (leb a h) t)))))))
-    (λ f. f)
-
--- An address in a range is apart from what lies outside it.
-pub inside_eqb : (lo hi n a : ℕ) → within lo hi n ≡ false → within lo hi a ≡ true → eqb a n ≡ false
-inside_eqb lo hi n a o i = ne_eqb a n (λ e. false≢true (sym o ∙ ap (within lo hi) (sym e) ∙ i))
-
-pub inside_within : (lo hi l h a : ℕ) → (ltb hi l || ltb h lo) ≡ true → within lo hi a ≡ true → within l h a ≡ false
-inside_within lo hi l h a o i =
-    split (within l h a)
-    (λ t. split (ltb hi l)
-    (λ b. absurd (omega (arith, ltb-true hi l b, leb-true a hi (and_right (leb lo a) (leb a hi) i), leb-true l a (and_left (leb l a) (leb a h) t))))
-    (λ b. absurd (omega (arith, ltb-true h lo (rw b at o), leb-true lo a (and_left (leb lo a) (leb a hi) i), leb-true a h (and_right (leb l a) (leb a h) t)))))
-    (λ f. f)
-
-module _ (a : ℕ) (o : within 0x5100 0x5206 a ≡ false) where
-  -- No register is read.
-  pub read_idle : (g : Regs) (v : VSplit) (d : Detector) (prg chr : List ℕ) (page : Answer) → register_read g v d prg chr a page ≡ page
-  unfolding register_read register_at
-  read_idle g v d prg chr page =
-      rw (
-        apart_within 0x5100 0x5206 0x5113 0x5117 a refl o,
-        apart_within 0x5100 0x5206 0x5120 0x512B a refl o,
-        apart_eqb 0x5100 0x5206 0x5100 a refl o,
-        apart_eqb 0x5100 0x5206 0x5101 a refl o,
-        apart_eqb 0x5100 0x5206 0x5104 a refl o,
-        apart_eqb 0x5100 0x5206 0x5105 a refl o,
-        apart_eqb 0x5100 0x5206 0x5106 a refl o,
-        apart_eqb 0x5100 0x5206 0x5107 a refl o,
-        apart_eqb 0x5100 0x5206 0x5130 a refl o,
-        apart_eqb 0x5100 0x5206 0x5200 a refl o,
-        apart_eqb 0x5100 0x5206 0x5201 a refl o,
-        apart_eqb 0x5100 0x5206 0x5202 a refl o,
-        apart_eqb 0x5100 0x5206 0x5203 a refl o,
-        apart_eqb 0x5100 0x5206 0x5204 a refl o,
-        apart_eqb 0x5100 0x5206 0x5205 a refl o,
-        apart_eqb 0x5100 0x5206 0x5206 a refl o,
-      )
-
-  -- No group is written.
-  pub write_idle : (s : State) (v : ℕ) → register_written s a v ≡ s
-  unfolding register_written written split_after irq_after ppu_after prg_banks_after chr_banks_after prg_pages_after chr_pages_after
-  write_idle s v =
-      rw (
-        apart_within 0x5100 0x5206 0x5113 0x5117 a refl o,
-        apart_within 0x5100 0x5206 0x5120 0x512B a refl o,
-        apart_within 0x5100 0x5206 0x5120 0x5127 a refl o,
-        apart_within 0x5100 0x5206 0x5128 0x512B a refl o,
-        apart_within 0x5100 0x5206 0x5102 0x5103 a refl o,
-        apart_within 0x5100 0x5206 0x5104 0x5105 a refl o,
-        apart_eqb 0x5100 0x5206 0x5100 a refl o,
-        apart_eqb 0x5100 0x5206 0x5101 a refl o,
-        apart_eqb 0x5100 0x5206 0x5102 a refl o,
-        apart_eqb 0x5100 0x5206 0x5103 a refl o,
-        apart_eqb 0x5100 0x5206 0x5104 a refl o,
-        apart_eqb 0x5100 0x5206 0x5105 a refl o,
-        apart_eqb 0x5100 0x5206 0x5106 a refl o,
-        apart_eqb 0x5100 0x5206 0x5107 a refl o,
-        apart_eqb 0x5100 0x5206 0x5130 a refl o,
-        apart_eqb 0x5100 0x5206 0x5200 a refl o,
-        apart_eqb 0x5100 0x5206 0x5201 a refl o,
-        apart_eqb 0x5100 0x5206 0x5202 a refl o,
-        apart_eqb 0x5100 0x5206 0x5203 a refl o,
-        apart_eqb 0x5100 0x5206 0x5204 a refl o,
-        apart_eqb 0x5100 0x5206 0x5205 a refl o,
-        apart_eqb 0x5100 0x5206 0x5206 a refl o,
-      )
-
--- The addresses whose writes map PRG pages lie below $5118, and are no CHR or nametable register.
-record PrgOnly (a : ℕ) : Type 0 where
-  low : a < 0x5118
-  no_mode : eqb a 0x5101 ≡ false
-  no_names : within 0x5104 0x5105 a ≡ false
-
-either : {A : Type 0} (b c : Bool) → (b ≡ true → A) → (c ≡ true → A) → b || c ≡ true → A
-either true c f g t = f refl
-either false c f g t = g t
-
-neither_right : (b c : Bool) → b || c ≡ false → c ≡ false
-neither_right true c f = absurd (false≢true (sym f))
-neither_right false c f = f
-
-in_range_only : (lo hi a : ℕ) → ltb hi 0x5118 ≡ true → within lo hi 0x5101 ≡ false → (ltb hi 0x5104 || ltb 0x5105 lo) ≡ true → within lo hi a ≡ true → PrgOnly a
-in_range_only lo hi a l m n i =
-    record {
-      low = omega (arith, ltb-true hi 0x5118 l, leb-true a hi (and_right (leb lo a) (leb a hi) i));
-      no_mode = inside_eqb lo hi 0x5101 a m i;
-      no_names = inside_within lo hi 0x5104 0x5105 a n i;
-    }
-
-prg_only : (a : ℕ) → maps_prg a ≡ true → PrgOnly a
-prg_only a =
-    either (eqb a 0x5100) (within 0x5102 0x5103 a || within 0x5113 0x5117 a)
-    (λ e. in_range_only 0x5100 0x5100 a refl refl refl (rw (eqb-true a 0x5100 e) refl))
-    (either (within 0x5102 0x5103 a) (within 0x5113 0x5117 a) (in_range_only 0x5102 0x5103 a refl refl refl) (in_range_only 0x5113 0x5117 a refl refl refl))
-
-below_eqb : (a n : ℕ) → a < 0x5118 → leb 0x5118 n ≡ true → eqb a n ≡ false
-below_eqb a n l h = ne_eqb a n (λ e. absurd (omega (arith, l, leb-true 0x5118 n h, e)))
-
-below_within : (a lo hi : ℕ) → a < 0x5118 → leb 0x5118 lo ≡ true → within lo hi a ≡ false
-below_within a lo hi l h = split (within lo hi a) (λ t. absurd (omega (arith, l, leb-true 0x5118 lo h, leb-true lo a (and_left (leb lo a) (leb a hi) t)))) (λ f. f)
+-- No group is written.
+pub write_idle : (a : ℕ) → within 0x5100 0x5206 a ≡ false → (s : State) (v : ℕ) → register_written s a v ≡ s
+unfolding register_written written split_after irq_after ppu_after prg_banks_after chr_banks_after prg_pages_after chr_pages_after
+write_idle a o s v = grind (arith, common_steps)
 
 -- A state with the groups that a write which maps PRG pages leaves, and with those that any other leaves.
 abbrev pub prg_left : State → Regs → List ℕ → List PageWord → State
@@ -178,23 +78,7 @@ module _ (s : State) (a v : ℕ) where
       ≡ prg_left s (written s.regs a v) (prg_banks_after s.prg_banks a v)
       (prg_mapped s.lengths.prg s.lengths.ram (written s.regs a v) (prg_banks_after s.prg_banks a v) s.prg_pages)
   unfolding register_written split_after irq_after ppu_after chr_banks_after prg_pages_after chr_pages_after
-  write_prg_is t =
-      let o = prg_only a t in
-      rw (
-        t,
-        o.no_mode,
-        o.no_names,
-        apart_eqb 0x5104 0x5105 0x5105 a refl o.no_names,
-        below_within a 0x5120 0x512B o.low refl,
-        below_within a 0x5120 0x5127 o.low refl,
-        below_within a 0x5128 0x512B o.low refl,
-        below_eqb a 0x5130 o.low refl,
-        below_eqb a 0x5200 o.low refl,
-        below_eqb a 0x5201 o.low refl,
-        below_eqb a 0x5202 o.low refl,
-        below_eqb a 0x5203 o.low refl,
-        below_eqb a 0x5204 o.low refl,
-      )
+  write_prg_is t = grind (arith, common_steps)
 
   -- Any other write leaves the PRG banks, and of the PRG table all but ExRAM's page.
   pub write_rest_is : maps_prg a ≡ false
@@ -205,9 +89,7 @@ module _ (s : State) (a v : ℕ) where
       (chr_pages_after s.lengths (written s.regs a v) (chr_banks_after s.chr_banks a v) (ppu_after s.ppu s.irq.in_frame a).bg_set s.chr_pages a)
       (exram_word (get_or s.prg_pages 23 (word 0)) (written s.regs a v).exram_mode a)
   unfolding register_written prg_banks_after prg_pages_after exram_word
-  write_rest_is f =
-      rw (f, neither_right (within 0x5102 0x5103 a) (within 0x5113 0x5117 a) (neither_right (eqb a 0x5100) (within 0x5102 0x5103 a || within 0x5113 0x5117 a) f))
-      (split (eqb a 0x5104) (λ t. rw t) (λ n. rw (n, set-get_or s.prg_pages 23 (word 0))))
+  write_rest_is f = grind (arith, common_steps, set-get_or)
 
 -- The same, by what the loop has in hand.
 module _ (s : State) (a v : ℕ) where
@@ -239,7 +121,7 @@ placed_below l at f zero i d h = refl
 placed_below l at f (suc n) i d h = get_or-set_other (placed l at f n) (at + n) i (f n) d (λ e. absurd (omega (arith, h, e))) ∙ placed_below l at f n i d h
 
 page_20 : (a : ℕ) → within 0x5100 0x5206 a ≡ true → a / 1024 ≡ 20
-page_20 a t = omega (arith, leb-true 0x5100 a (and_left (leb 0x5100 a) (leb a 0x5206) t), leb-true a 0x5206 (and_right (leb 0x5100 a) (leb a 0x5206) t))
+page_20 a t = grind (arith, common_steps)
 
 pub word_kept : (s : State) (a v : ℕ) → prg_word_at (register_written s a v).prg_pages a ≡ prg_word_at s.prg_pages a
 unfolding register_written prg_pages_after
@@ -257,4 +139,4 @@ set_fields p q =
 
 pub chosen_changes : (p : PpuStatus) (framed : Bool) (a : ℕ) → chosen_at p framed a ≡ set_fields p (chosen_at p framed a)
 unfolding chosen_at chosen
-chosen_changes p framed a = split (ltb a 0x2000) (λ t. rw t) (λ f. rw f)
+chosen_changes p framed a = grind (arith, common_steps)

@@ -1,6 +1,6 @@
 // What a CPU read answers, and what a CPU write stores.
 ghost use Rattle.std.specs.Prelude.{◌≡◌, List, ℕ};
-ghost use Rattle.memory.specs.Bytes.{mem_of, page_stored};
+ghost use Rattle.memory.specs.Bytes.{mem_in, mem_of, page_stored};
 ghost use Rattle.memory.specs.Tests.{pick};
 ghost use Rattle.memory.specs.PageWords.{page_of};
 ghost use Rattle.cpu.specs.Reads.{page_answer, register_read};
@@ -8,12 +8,13 @@ ghost use Rattle.cpu.specs.Writes.{latched};
 ghost use Rattle.steps.specs.Sides.{exram_word};
 
 use answers::Answer;
-use memory::{CpuAddr, PageWord};
+use memory::{CpuAddr, Lent, PageWord};
 use registers::Regs;
 use scanline::Detector;
 use split::VSplit;
 
 // What a read answers: the registers lie from $5100 to $5206, elsewhere it is the page.
+#[tactic(auto, using(cpu::proofs::Addresses::answer_low, crate::proofs::Idle::read_idle))]
 pub fn read(
     regs: Regs,
     vsplit: VSplit,
@@ -21,17 +22,13 @@ pub fn read(
     prg_banks: [u8; 5],
     chr_banks: [u8; 16],
     word: PageWord,
-    prg: &[u8],
-    chr: &[u8],
-    ram: &[u8],
-    ciram: &[u8],
-    exram: &[u8],
+    lent: Lent<'_>,
     addr: CpuAddr,
 ) -> Answer
     ensures { result ≡ register_read regs vsplit irq prg_banks chr_banks addr.0
-        (page_answer (mem_of prg.now chr.now ram.now ciram.now exram.now) (page_of word) addr.0) }
+        (page_answer (mem_in lent.entry) (page_of word) addr.0) }
 {
-    let page = cpu::reads::page_answer(prg, chr, ram, ciram, exram, word, addr.0 % 1024);
+    let page = cpu::reads::page_answer(lent, word, addr.0 % 1024);
     if cpu::groups::is_within(0x5100, 0x5206, addr) {
         return cpu::reads::register_or(regs, vsplit, irq, prg_banks, chr_banks, addr, page);
     }
@@ -39,6 +36,7 @@ pub fn read(
 }
 
 // The buffers after a write: ExRAM's own way, then the page.
+#[tactic(auto, using(memory::proofs::ByteLaws::stored_low))]
 pub fn store(
     chr: &mut [u8],
     ram: &mut [u8],
@@ -58,11 +56,13 @@ pub fn store(
 }
 
 // ExRAM's page in the PRG table, at $5C00, after a write; `mode` is the ExRAM mode after it.
+#[tactic(auto, unfolding(crate::specs::Sides::exram_word))]
 pub fn exram_word(word: PageWord, mode: u8, addr: CpuAddr) -> PageWord
     ensures { result ≡ exram_word word mode addr.0 }
 {
     if addr.0 == 0x5104 {
-        return banks::prg::exram_page(mode);
+        banks::prg::exram_page(mode)
+    } else {
+        word
     }
-    word
 }

@@ -1,6 +1,6 @@
 // What a PPU fetch does to the groups that it touches, and what it answers.
 ghost use Rattle.std.specs.Prelude.{◌≡◌, true, ltb};
-ghost use Rattle.memory.specs.Bytes.{mem_of};
+ghost use Rattle.memory.specs.Bytes.{mem_in};
 ghost use Rattle.memory.specs.Tests.{pick};
 ghost use Rattle.memory.specs.PageWords.{page_of};
 ghost use Rattle.banks.specs.Chr.{chr_mapped};
@@ -14,7 +14,7 @@ ghost use Rattle.ppu.specs.Served.{counted_served, pattern_served};
 ghost use Rattle.steps.specs.Sides.{chosen_at};
 
 use answers::Answer;
-use memory::{PageWord, PpuAddr};
+use memory::{Lent, PageWord, PpuAddr};
 use registers::Regs;
 use scanline::Detector;
 use split::VSplit;
@@ -28,6 +28,7 @@ pub struct Counted {
     pub vsplit: VSplit,
 }
 
+#[tactic(auto, unfolding(scanline::specs::Ranges::detector_ok, scanline::specs::Tiles::tiles_ok, scanline::specs::Tiles::next_tile, ppu::specs::Fetches::ppu_seen))]
 pub fn count_fetch(
     regs: Regs,
     irq: Detector,
@@ -50,34 +51,33 @@ pub fn count_fetch(
 }
 
 // What such a fetch answers, by the groups after it.
+#[tactic(auto, using(cpu::proofs::Addresses::answer_low))]
 pub fn counted_answer(
     regs: Regs,
     vsplit: VSplit,
     in_frame: bool,
     ppu: PpuStatus,
     word: PageWord,
-    prg: &[u8],
-    chr: &[u8],
-    ram: &[u8],
-    ciram: &[u8],
-    exram: &[u8],
+    lent: Lent<'_>,
     addr: PpuAddr,
 ) -> Answer
-    ensures { result ≡ counted_served regs vsplit in_frame ppu exram.now addr.0
-        (page_answer (mem_of prg.now chr.now ram.now ciram.now exram.now) (page_of word) addr.0) }
+    ensures { result ≡ counted_served regs vsplit in_frame ppu lent.entry.exram.now addr.0
+        (page_answer (mem_in lent.entry) (page_of word) addr.0) }
 {
-    let page = cpu::reads::page_answer(prg, chr, ram, ciram, exram, word, addr.0 % 1024);
-    ppu::served::counted_served(regs, vsplit, in_frame, ppu, exram, addr, page)
+    let page = cpu::reads::page_answer(lent, word, addr.0 % 1024);
+    ppu::served::counted_served(regs, vsplit, in_frame, ppu, lent.exram, addr, page)
 }
 
 // The CHR set after any other fetch.
+#[tactic(auto, unfolding(crate::specs::Sides::chosen_at))]
 pub fn chosen_at(ppu: PpuStatus, in_frame: bool, addr: PpuAddr) -> PpuStatus
     ensures { result ≡ chosen_at ppu in_frame addr.0 }
 {
     if addr.0 < 0x2000 {
-        return cpu::chosen::choose(ppu, in_frame);
+        cpu::chosen::choose(ppu, in_frame)
+    } else {
+        ppu
     }
-    ppu
 }
 
 // The CHR table with the set that is wanted: "mapping only on a change".
@@ -92,33 +92,33 @@ pub fn map_on_change(
     ensures { result ≡ pick (set_changed before after) (chr_mapped lengths.chr lengths.chr_writable regs banks after pages) pages }
 {
     if cpu::chosen::set_changed(before, after) {
-        return banks::chr::map_chr(lengths, regs, banks, after, pages);
+        banks::chr::map_chr(lengths, regs, banks, after, pages)
+    } else {
+        pages
     }
-    pages
 }
 
 // What any other fetch answers: from $3F00 on the page.
+#[tactic(auto, using(cpu::proofs::Addresses::answer_low))]
 pub fn other_answer(
     regs: Regs,
     vsplit: VSplit,
     irq: Detector,
     ppu: PpuStatus,
     word: PageWord,
-    prg: &[u8],
-    chr: &[u8],
-    ram: &[u8],
-    ciram: &[u8],
-    exram: &[u8],
+    lent: Lent<'_>,
     addr: PpuAddr,
 ) -> Answer
     ensures { result ≡ pick (ltb addr.0 0x2000)
-        (pattern_served regs vsplit irq ppu exram.now chr.now addr.0
-        (page_answer (mem_of prg.now chr.now ram.now ciram.now exram.now) (page_of word) addr.0))
-        (page_answer (mem_of prg.now chr.now ram.now ciram.now exram.now) (page_of word) addr.0) }
+        (pattern_served regs vsplit irq ppu lent.entry.exram.now lent.entry.chr.now addr.0
+        (page_answer (mem_in lent.entry) (page_of word) addr.0))
+        (page_answer (mem_in lent.entry) (page_of word) addr.0) }
 {
-    let page = cpu::reads::page_answer(prg, chr, ram, ciram, exram, word, addr.0 % 1024);
+    let page = cpu::reads::page_answer(lent, word, addr.0 % 1024);
     if addr.0 < 0x2000 {
-        return ppu::served::pattern_served(regs, vsplit, irq, ppu, exram, chr, addr, page);
+        return ppu::served::pattern_served(
+            regs, vsplit, irq, ppu, lent.exram, lent.chr, addr, page,
+        );
     }
     page
 }

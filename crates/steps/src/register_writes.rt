@@ -18,6 +18,8 @@ pub struct PrgWrite {
     pub pages: [PageWord; 64],
 }
 
+// Lengths that load takes are asked for here, and in board, by a test: the type also holds those of a state that is refused.
+#[tactic(auto, unfolding(state::specs::Lengths::lengths_ok))]
 pub fn write_prg(
     lengths: Lengths,
     regs: Regs,

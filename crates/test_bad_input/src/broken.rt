@@ -1,100 +1,92 @@
-// A state with one range broken, for each range of document 01's "STATE ranges", by the number of the try. Of page words those that a table may
+// Reads over a state with one range broken, for each range of document 01's "STATE ranges". Of page words those that a table may
 // not show: another table's buffer, a page past the buffer's end, CHR-ROM marked writable.
+use crate::lent::{Lent, as_recorded};
+use crate::read;
 use memory::page_words::word_of;
 use memory::{PageWord, Src};
-use registers::Regs;
-use scanline::Detector;
-use split::VSplit;
-use state::{Lengths, PpuStatus, State};
+use state::State;
+use std::io;
 
-// The number where the try is the one that breaks it, else as it was.
-fn byte(n: u8, at: u8, bad: u8, good: u8) -> u8 {
-    if n == at {
-        return bad;
-    }
-    good
-}
-
-fn half(n: u8, at: u8, bad: u16, good: u16) -> u16 {
-    if n == at {
-        return bad;
-    }
-    good
-}
-
-fn number(n: u8, at: u8, bad: u32, good: u32) -> u32 {
-    if n == at {
-        return bad;
-    }
-    good
-}
-
-fn detector(n: u8, d: Detector) -> Detector {
-    let mut t = d;
-    t.idle_count = byte(n, 13, 3, d.idle_count);
-    t.scanline = half(n, 14, 65280, d.scanline);
-    t
-}
-
-fn status(n: u8, p: PpuStatus) -> PpuStatus {
-    let mut t = p;
-    t.tile_number = number(n, 15, 84, p.tile_number);
-    t.tile_cache = half(n, 16, 1024, p.tile_cache);
-    t
-}
-
-fn vertical(n: u8, v: VSplit) -> VSplit {
-    let mut t = v;
-    t.tile = byte(n, 17, 32, v.tile);
-    t.tile_addr = half(n, 18, 960, v.tile_addr);
-    t
-}
-
-fn registers(n: u8, g: Regs) -> Regs {
-    let mut t = g;
-    t.prg_mode = byte(n, 19, 4, g.prg_mode);
-    t.chr_mode = byte(n, 20, 4, g.chr_mode);
-    t.exram_mode = byte(n, 21, 4, g.exram_mode);
-    t.fill_attr = byte(n, 22, 4, g.fill_attr);
-    t.protect_a = byte(n, 23, 4, g.protect_a);
-    t.protect_b = byte(n, 24, 4, g.protect_b);
-    t.chr_hi = half(n, 25, 255, half(n, 26, 1024, g.chr_hi));
-    t
-}
-
-fn recorded(n: u8, l: Lengths) -> Lengths {
-    let mut t = l;
-    t.loaded = l.loaded & (n != 27) & (n != 28);
-    t.prg = number(n, 28, 4096, number(n, 29, 0, number(n, 30, 0, l.prg)));
-    t
-}
-
-fn prg_page(n: u8, w: PageWord) -> PageWord {
-    match n {
-        31 => word_of(Src::Chr, 0, false),
-        32 => word_of(Src::PrgRom, 8, false),
-        33 => PageWord(4000),
-        _ => w,
-    }
-}
-
-fn chr_page(n: u8, w: PageWord) -> PageWord {
-    match n {
-        34 => word_of(Src::PrgRom, 0, false),
-        35 => word_of(Src::Chr, 8, false),
-        36 => word_of(Src::Chr, 0, true),
-        _ => w,
-    }
-}
-
-pub fn broken(n: u8, s: State) -> State {
+// A read over the state that a change breaks.
+fn broken<F: FnOnce(&mut State)>(
+    rt: &impl Print,
+    s: State,
+    label: &str,
+    change: F,
+) -> io::Result<()>
+    requires { F.IsAlwaysCallable change }
+{
     let mut t = s;
-    t.irq = detector(n, s.irq);
-    t.ppu = status(n, s.ppu);
-    t.vsplit = vertical(n, s.vsplit);
-    t.regs = registers(n, s.regs);
-    t.lengths = recorded(n, s.lengths);
-    t.prg_pages[63] = prg_page(n, s.prg_pages[63]);
-    t.chr_pages[0] = chr_page(n, s.chr_pages[0]);
-    t
+    change(&mut t);
+    read(rt, label, t, as_recorded())
+}
+
+fn counts(rt: &impl Print, s: State) -> io::Result<()> {
+    broken(rt, s, "idle count 3", |t| t.irq.idle_count = 3)?;
+    broken(rt, s, "line counter 65,280", |t| t.irq.scanline = 65280)?;
+    broken(rt, s, "tile count 84", |t| t.ppu.tile_number = 84)?;
+    broken(rt, s, "tile cache 1,024", |t| t.ppu.tile_cache = 1024)?;
+    broken(rt, s, "split tile 32", |t| t.vsplit.tile = 32)?;
+    broken(rt, s, "tile address 960", |t| t.vsplit.tile_addr = 960)
+}
+
+fn registers(rt: &impl Print, s: State) -> io::Result<()> {
+    broken(rt, s, "PRG mode 4", |t| t.regs.prg_mode = 4)?;
+    broken(rt, s, "CHR mode 4", |t| t.regs.chr_mode = 4)?;
+    broken(rt, s, "ExRAM mode 4", |t| t.regs.exram_mode = 4)?;
+    broken(rt, s, "fill attribute 4", |t| t.regs.fill_attr = 4)?;
+    broken(rt, s, "first protect byte 4", |t| t.regs.protect_a = 4)?;
+    broken(rt, s, "second protect byte 4", |t| t.regs.protect_b = 4)?;
+    broken(rt, s, "chr_hi 255", |t| t.regs.chr_hi = 255)?;
+    broken(rt, s, "chr_hi 1,024", |t| t.regs.chr_hi = 1024)
+}
+
+fn lengths(rt: &impl Print, s: State) -> io::Result<()> {
+    broken(rt, s, "not loaded", |t| t.lengths.loaded = false)?;
+    broken(rt, s, "not loaded, with another length", |t| {
+        t.lengths.loaded = false;
+        t.lengths.prg = 4096;
+    })?;
+    broken(rt, s, "another length", |t| t.lengths.prg = 0)?;
+    let mut t = s;
+    t.lengths.prg = 0;
+    let lent = Lent {
+        prg: &[],
+        ..as_recorded()
+    };
+    read(rt, "PRG-ROM of 0 recorded and lent", t, lent)
+}
+
+fn prg_page(rt: &impl Print, s: State, label: &str, word: PageWord) -> io::Result<()> {
+    broken(rt, s, label, |t| t.prg_pages[63] = word)
+}
+
+fn chr_page(rt: &impl Print, s: State, label: &str, word: PageWord) -> io::Result<()> {
+    broken(rt, s, label, |t| t.chr_pages[0] = word)
+}
+
+fn pages(rt: &impl Print, s: State) -> io::Result<()> {
+    prg_page(rt, s, "CHR in the PRG table", word_of(Src::Chr, 0, false))?;
+    prg_page(
+        rt,
+        s,
+        "PRG-ROM past its end",
+        word_of(Src::PrgRom, 8, false),
+    )?;
+    prg_page(rt, s, "a word that names no page", PageWord(4000))?;
+    chr_page(
+        rt,
+        s,
+        "PRG-ROM in the CHR table",
+        word_of(Src::PrgRom, 0, false),
+    )?;
+    chr_page(rt, s, "CHR past its end", word_of(Src::Chr, 8, false))?;
+    chr_page(rt, s, "CHR-ROM marked writable", word_of(Src::Chr, 0, true))
+}
+
+pub fn each(rt: &impl Print, s: State) -> io::Result<()> {
+    counts(rt, s)?;
+    registers(rt, s)?;
+    lengths(rt, s)?;
+    pages(rt, s)
 }

@@ -1,40 +1,20 @@
 // Fetches at the limit of the line counter, and where the tile count turns over. 01, refusal 7: "a fetch at $2000-$3EFF would need .. a line counter above
 // 65,279"; CR 7: "so 83 is followed by 42". A line shows both counters before the fetch, the address, and what the fetch got.
-ghost use Rattle.std.specs.Prelude.{◌≤◌};
-
-use crate::{lengths, lent, print_answer};
-use print::{print_number, print_text};
+use crate::{Got, lent};
 use state::State;
 use std::io;
 
-fn shown(rt: &impl Print, line: u16, tile: u32, addr: u16) -> io::Result<()> {
-    print_text(rt, b"line ")?;
-    print_number(rt, line as u64)?;
-    print_text(rt, b", tile ")?;
-    print_number(rt, tile as u64)?;
-    print_text(rt, b", fetch ")?;
-    print_number(rt, addr as u64)
-}
-
-fn fetched(rt: &impl Print, s: State, addr: u16) -> io::Result<State> {
-    shown(rt, s.irq.scanline, s.ppu.tile_number, addr)?;
-    let got = lent::by_number(lent::FETCH, s, addr, lengths::AS_RECORDED);
-    let answer = got.answer;
-    print_answer(rt, answer)?;
-    Ok(got.state)
-}
-
-// Each run's fetches, from one place of the table to another.
-fn fetches(rt: &impl Print, s: State, first: usize, last: usize) -> io::Result<()>
-    requires { last ≤ 19 }
-{
-    let table: [u16; 19] = [
-        0x2000, 0x2000, 0x2000, 0x2001, 0x2001, 0x2001, 0x2002, 0x2000, 0x2000, 0x2000, 0x2001,
-        0x2000, 0x2001, 0x23C0, 0x3000, 0x2000, 0x2000, 0x2000, 0x2FC0,
-    ];
+// One run's fetches, each over the state that the one before it left.
+fn fetches(rt: &impl Print, s: State, addrs: &[u16]) -> io::Result<()> {
     let mut t = s;
-    for i in first..last {
-        t = fetched(rt, t, table[i])?;
+    for addr in addrs {
+        print!(rt;
+            "line {}, tile {}, fetch {addr}: ",
+            t.irq.scanline, t.ppu.tile_number
+        )?;
+        let got = lent::as_recorded().ppu_fetch(t, *addr);
+        println!(rt; "{}", Got(got.answer))?;
+        t = got.state;
     }
     Ok(())
 }
@@ -51,10 +31,14 @@ fn counting(s: State, in_frame: bool, line: u16, tile: u32) -> State {
 // starts from 0. A name fetch to $2FFF counts; an attribute fetch does not, nor a fetch from $3000 on. The third equal fetch zeroes the tile count. CR 7:
 // "5 uses the new range", 0 to 83.
 pub fn each(rt: &impl Print, s: State) -> io::Result<()> {
-    fetches(rt, counting(s, true, 65278, 0), 0, 7)?;
-    fetches(rt, counting(s, false, 65279, 0), 7, 11)?;
-    fetches(rt, counting(s, false, 0, 82), 11, 15)?;
-    fetches(rt, counting(s, false, 0, 81), 15, 19)?;
-    fetches(rt, counting(s, false, 0, 84), 0, 1)?;
-    fetches(rt, counting(s, false, 0, 4294967295), 0, 1)
+    let two_lines = [0x2000, 0x2000, 0x2000, 0x2001, 0x2001, 0x2001, 0x2002];
+    fetches(rt, counting(s, true, 65278, 0), &two_lines)?;
+    let one_line = [0x2000, 0x2000, 0x2000, 0x2001];
+    fetches(rt, counting(s, false, 65279, 0), &one_line)?;
+    let past_83 = [0x2000, 0x2001, 0x23C0, 0x3000];
+    fetches(rt, counting(s, false, 0, 82), &past_83)?;
+    let a_line_and_a_last_name = [0x2000, 0x2000, 0x2000, 0x2FC0];
+    fetches(rt, counting(s, false, 0, 81), &a_line_and_a_last_name)?;
+    fetches(rt, counting(s, false, 0, 84), &[0x2000])?;
+    fetches(rt, counting(s, false, 0, 4294967295), &[0x2000])
 }

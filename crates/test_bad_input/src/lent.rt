@@ -1,5 +1,6 @@
 // The board's calls, over buffers that are lent for one call.
-use crate::lengths;
+ghost use Rattle.std.specs.Prelude.{◌≤◌};
+
 use answers::Answer;
 use board::Outcome;
 use board::loads::Settings;
@@ -7,71 +8,85 @@ use memory::{CpuAddr, PpuAddr};
 use registers::Mirroring;
 use state::State;
 
-// The calls that store nothing.
-pub const LOAD: u8 = 0;
-
-pub const READ: u8 = 1;
-
-pub const PEEK: u8 = 2;
-
-pub const FETCH: u8 = 3;
-
 // CHR-ROM, mirrored horizontally.
-pub fn plain() -> Settings {
-    Settings {
-        chr_writable: false,
-        mirroring: Mirroring::Horizontal,
+const PLAIN: Settings = Settings {
+    chr_writable: false,
+    mirroring: Mirroring::Horizontal,
+};
+
+static ZEROS: [u8; 8192] = [0; 8192];
+
+// The first bytes of a buffer of zeros.
+pub fn zeros(len: usize) -> &'static [u8]
+    requires { len ≤ 8192 }
+{
+    &ZEROS[..len]
+}
+
+// What is lent for the calls that store nothing.
+#[derive(Clone, Copy)]
+pub struct Lent<'a> {
+    pub prg: &'a [u8],
+    pub chr: &'a [u8],
+    pub ram: &'a [u8],
+    pub ciram: &'a [u8],
+    pub exram: &'a [u8],
+}
+
+// Buffers of the lengths that the load of this program records.
+pub fn as_recorded() -> Lent<'static> {
+    Lent {
+        prg: zeros(8192),
+        chr: zeros(8192),
+        ram: zeros(8192),
+        ciram: zeros(2048),
+        exram: zeros(1024),
     }
 }
 
-fn call(
-    kind: u8,
-    s: State,
-    addr: u16,
-    prg: &[u8],
-    chr: &[u8],
-    ram: &[u8],
-    ciram: &[u8],
-    exram: &[u8],
-) -> Outcome {
-    if kind == LOAD {
-        return board::loads::load(prg, chr, ram, ciram, exram, plain());
+impl Lent<'_> {
+    pub fn load(self) -> Outcome {
+        board::loads::load(self.prg, self.chr, self.ram, self.ciram, self.exram, PLAIN)
     }
-    if kind == READ {
-        return board::cpu_side::cpu_read(s, prg, chr, ram, ciram, exram, CpuAddr(addr));
+
+    pub fn cpu_read(self, s: State, addr: u16) -> Outcome {
+        board::cpu_side::cpu_read(
+            s,
+            self.prg,
+            self.chr,
+            self.ram,
+            self.ciram,
+            self.exram,
+            CpuAddr(addr),
+        )
     }
-    if kind == FETCH {
-        return board_ppu::fetches::ppu_fetch(s, prg, chr, ram, ciram, exram, PpuAddr(addr));
+
+    pub fn cpu_peek(self, s: State, addr: u16) -> Answer {
+        board::cpu_side::cpu_peek(
+            s,
+            self.prg,
+            self.chr,
+            self.ram,
+            self.ciram,
+            self.exram,
+            CpuAddr(addr),
+        )
     }
-    let answer = board::cpu_side::cpu_peek(s, prg, chr, ram, ciram, exram, CpuAddr(addr));
-    Outcome { answer, state: s }
+
+    pub fn ppu_fetch(self, s: State, addr: u16) -> Outcome {
+        board_ppu::fetches::ppu_fetch(
+            s,
+            self.prg,
+            self.chr,
+            self.ram,
+            self.ciram,
+            self.exram,
+            PpuAddr(addr),
+        )
+    }
 }
 
-// The call over buffers of the lengths that a try lends.
-pub fn by_number(kind: u8, s: State, addr: u16, n: u8) -> Outcome {
-    let prg = [0u8; 8192];
-    let chr = [0u8; 8192];
-    let ram = [0u8; 8192];
-    let ciram = [0u8; 4096];
-    let exram = [0u8; 4096];
-    let p = lengths::prg(n);
-    let c = lengths::chr(n);
-    let r = lengths::ram(n);
-    let i = lengths::ciram(n);
-    let e = lengths::exram(n);
-    call(
-        kind,
-        s,
-        addr,
-        &prg[0..p],
-        &chr[0..c],
-        &ram[0..r],
-        &ciram[0..i],
-        &exram[0..e],
-    )
-}
-
-// A write, over buffers of the recorded lengths.
+// A write, over buffers of the recorded lengths, fixed ones as there is no heap.
 pub fn written(s: State, addr: u16) -> Answer {
     let prg = [0u8; 8192];
     let mut chr = [0u8; 8192];

@@ -1,24 +1,22 @@
 // The counters of a case: the line counter in two bytes and the full tile count in four, low ones first. No short trace
 // brings the line counter near its limit, or the Rust's tile count near the end of its 32 bits.
-ghost use Rattle.std.specs.Prelude.{◌≡◌, ◌<◌, length};
+ghost use Rattle.std.specs.Prelude.{◌≡◌};
 ghost use Rattle.test_fixed_list.specs.Counters.{line_of, tile_of, is_in_frame, start_of};
 ghost use Rattle.scanline.specs.Tiles.{fold};
 
-use crate::head::{COUNTERS, two};
+use crate::case::After;
 use state::State;
 
-fn line_of(b: &[u8]) -> u16
-    requires { 5 < length b.now }
+fn line_of(b: &[u8; 6]) -> u16
     ensures { result ≡ line_of b.now }
 {
-    two(b[0], b[1]) as u16
+    u16::from_le_bytes([b[0], b[1]])
 }
 
-fn tile_of(b: &[u8]) -> u32
-    requires { 5 < length b.now }
+fn tile_of(b: &[u8; 6]) -> u32
     ensures { result ≡ tile_of b.now }
 {
-    (two(b[2], b[3]) + two(b[4], b[5]) * 65536) as u32
+    u32::from_le_bytes([b[2], b[3], b[4], b[5]])
 }
 
 // What a board keeps of a full tile count.
@@ -43,15 +41,11 @@ fn in_frame(s: State, line: u16, tile: u32) -> State
 }
 
 // The state in frame with the case's counters, where it has some.
-#[tactic(auto, unfolding(crate::specs::Counters::start_of))]
-pub fn start(kind: u8, b: &[u8], s: State) -> State
-    ensures { result ≡ start_of kind b.now s }
+pub fn start(after: After<'_>, s: State) -> State
+    ensures { result ≡ start_of after.entry s }
 {
-    if kind != COUNTERS {
-        return s;
+    match after {
+        After::Counters(b) => in_frame(s, line_of(b), kept(tile_of(b))),
+        _ => s,
     }
-    if b.len() < 6 {
-        return s;
-    }
-    in_frame(s, line_of(b), kept(tile_of(b)))
 }

@@ -3,15 +3,16 @@
 // What a case file should not hold prints a line that no replay prints: `cut`, `large`, `load N`.
 #![tactic(auto)]
 
-ghost use Rattle.std.specs.Prelude.{◌≤◌, length, IfOk};
-
-use head::Head;
+use case::{Case, first_case};
+use fill::{Buffer, fill};
+use lent::Lent;
 use std::io;
 use trace::too_long;
 
+mod case;
 mod counters;
 mod fill;
-mod head;
+mod lent;
 mod lines;
 mod peeks;
 mod play;
@@ -19,90 +20,46 @@ mod play;
 // The case over buffers of its own lengths.
 fn play_over(
     rt: &impl Print,
-    head: Head,
-    trace: &[u8],
-    after: &[u8],
+    case: Case<'_>,
     prg: &mut [u8],
     chr: &mut [u8],
     ram: &mut [u8],
 ) -> io::Result<()> {
     let mut ciram = [0u8; 2048];
     let mut exram = [0u8; 1024];
-    let kind = head.kind;
-    let seed = head.seed;
-    fill::fill(prg, seed, 0);
-    fill::fill(chr, seed, 1);
-    fill::fill(ram, seed, 2);
-    fill::fill(&mut ciram, seed, 3);
-    fill::fill(&mut exram, seed, 4);
-    let writable = head.writable;
-    let mirroring = head.mirroring;
-    play::play(
-        rt, kind, trace, after, prg, chr, ram, &mut ciram, &mut exram, writable, mirroring,
-    )
+    fill(prg, case.seed, Buffer::PrgRom);
+    fill(chr, case.seed, Buffer::Chr);
+    fill(ram, case.seed, Buffer::PrgRam);
+    fill(&mut ciram, case.seed, Buffer::CiRam);
+    fill(&mut exram, case.seed, Buffer::ExRam);
+    let mut lent = Lent {
+        prg,
+        chr,
+        ram,
+        ciram: &mut ciram,
+        exram: &mut exram,
+    };
+    play::play(rt, case, &mut lent)
 }
 
 // The case over the first bytes of buffers that are as long as any case needs.
 fn play_case(
     rt: &impl Print,
-    head: Head,
-    trace: &[u8],
-    after: &[u8],
+    case: Case<'_>,
     prg: &mut [u8],
     chr: &mut [u8],
     ram: &mut [u8],
 ) -> io::Result<()> {
-    let p = head.prg;
-    let c = head.chr;
-    let r = head.ram;
-    if prg.len() < p {
-        return print::print_text(rt, b"large\n");
+    let prg = prg.get_mut(..case.prg);
+    let chr = chr.get_mut(..case.chr);
+    let ram = ram.get_mut(..case.ram);
+    let (Some(prg), Some(chr), Some(ram)) = (prg, chr, ram) else {
+        return println!(rt; "large");
+    };
+    if too_long(case.trace.len()) {
+        return println!(rt; "? 11");
     }
-    if chr.len() < c {
-        return print::print_text(rt, b"large\n");
-    }
-    if ram.len() < r {
-        return print::print_text(rt, b"large\n");
-    }
-    if too_long(trace.len()) {
-        return print::print_text(rt, b"? 11\n");
-    }
-    play_over(
-        rt,
-        head,
-        trace,
-        after,
-        &mut prg[..p],
-        &mut chr[..c],
-        &mut ram[..r],
-    )
-}
-
-// Plays the case at the start of `rest`; how many bytes it takes, 0 where it is cut.
-fn first_case(
-    rt: &impl Print,
-    rest: &[u8],
-    prg: &mut [u8],
-    chr: &mut [u8],
-    ram: &mut [u8],
-) -> io::Result<usize>
-    ensures { IfOk result (λ n. n ≤ length rest.now) }
-{
-    if rest.len() < head::LENGTH {
-        print::print_text(rt, b"cut\n")?;
-        return Ok(0);
-    }
-    let h = head::head_of(rest);
-    let end = head::LENGTH + h.trace;
-    let last = head::last_of(rest, h.kind, end);
-    if rest.len() < last {
-        print::print_text(rt, b"cut\n")?;
-        return Ok(0);
-    }
-    let trace = &rest[head::LENGTH..end];
-    let after = &rest[end..last];
-    play_case(rt, h, trace, after, prg, chr, ram)?;
-    Ok(last)
+    play_over(rt, case, prg, chr, ram)
 }
 
 fn play_all(
@@ -112,18 +69,18 @@ fn play_all(
     chr: &mut [u8],
     ram: &mut [u8],
 ) -> io::Result<()> {
-    let mut at = 0;
-    while at < cases.len() {
-        let taken = first_case(rt, &cases[at..], prg, chr, ram)?;
-        if taken == 0 {
-            break;
-        }
-        at += taken;
+    let mut rest = cases;
+    while let Some((case, after)) = first_case(rest) {
+        play_case(rt, case, prg, chr, ram)?;
+        rest = after;
+    }
+    if !rest.is_empty() {
+        println!(rt; "cut")?;
     }
     Ok(())
 }
 
-// The arrays as slices. Each is as long as its part of a cartridge can be.
+// The arrays as slices, outside `main`: there the check runs out of stack at a slice of a megabyte.
 fn play_in(
     rt: &impl Print,
     cases: &[u8],
@@ -134,11 +91,12 @@ fn play_in(
     play_all(rt, cases, prg, chr, ram)
 }
 
+// No heap: each array is as long as its part of a cartridge can be.
 fn main(rt: HostRuntime) -> io::Result<()> {
     let mut input = [0u8; 65536];
     let mut prg = [0u8; 1048576];
     let mut chr = [0u8; 1048576];
     let mut ram = [0u8; 65536];
-    let n = print::read_input(&rt, &mut input)?;
-    play_in(&rt, &input[..n], &mut prg, &mut chr, &mut ram)
+    let cases = print::read_input(&rt, &mut input)?;
+    play_in(&rt, cases, &mut prg, &mut chr, &mut ram)
 }

@@ -1,67 +1,59 @@
-// The peeks of a case, which no trace has. A byte with their number, then three bytes for each: which peek, and the address, low byte first.
-ghost use Rattle.std.specs.Prelude.{◌≤◌, ◌<◌, length};
-
-use crate::head::two;
+// The peeks of a case, which no trace has. Three bytes each: which peek, and the address, low byte first.
+use crate::lent::Lent;
 use crate::lines;
 use answers::Answer;
 use memory::{CpuAddr, PpuAddr};
-use print::print_text;
 use state::State;
 use std::io;
 
-// 0 is the CPU's peek, 1 the PPU's, 2 the sprites'.
-fn peek(
-    which: u8,
-    addr: u16,
-    s: State,
-    prg: &[u8],
-    chr: &[u8],
-    ram: &[u8],
-    ciram: &[u8],
-    exram: &[u8],
-) -> Answer {
-    match which {
-        0 => board::cpu_side::cpu_peek(s, prg, chr, ram, ciram, exram, CpuAddr(addr)),
-        1 => board_ppu::peeks::ppu_peek(s, prg, chr, ram, ciram, exram, PpuAddr(addr)),
-        _ => board_ppu::peeks::sprite_peek(s, prg, chr, ram, ciram, exram, PpuAddr(addr)),
+#[derive(Clone, Copy)]
+enum Peek {
+    Cpu,
+    Ppu,
+    Sprite,
+}
+
+// In the order of their numbers; no case has a number above 2.
+impl From<u8> for Peek {
+    fn from(n: u8) -> Peek {
+        match n {
+            0 => Peek::Cpu,
+            1 => Peek::Ppu,
+            _ => Peek::Sprite,
+        }
     }
 }
 
-// The peek whose last byte stands at a place. Its line: `peek`, the address, which peek, and the answer and the interrupt as in the line of a record.
-fn peek_at(
-    rt: &impl Print,
-    peeks: &[u8],
-    at: usize,
-    s: State,
-    prg: &[u8],
-    chr: &[u8],
-    ram: &[u8],
-    ciram: &[u8],
-    exram: &[u8],
-) -> io::Result<bool>
-    requires { (3 ≤ at) × (at < length peeks.now) }
-{
-    let which = peeks[at - 2];
-    let addr = two(peeks[at - 1], peeks[at]) as u16;
-    let answer = peek(which, addr, s, prg, chr, ram, ciram, exram);
-    print_text(rt, b"peek ")?;
-    lines::call(rt, addr as u32, which, answer, s)
+fn answer(peek: Peek, addr: u16, s: State, lent: &Lent<'_>) -> Answer {
+    let Lent {
+        prg,
+        chr,
+        ram,
+        ciram,
+        exram,
+    } = lent;
+    match peek {
+        Peek::Cpu => board::cpu_side::cpu_peek(s, prg, chr, ram, ciram, exram, CpuAddr(addr)),
+        Peek::Ppu => board_ppu::peeks::ppu_peek(s, prg, chr, ram, ciram, exram, PpuAddr(addr)),
+        Peek::Sprite => board_ppu::peeks::sprite_peek(
+            s,
+            prg,
+            chr,
+            ram,
+            ciram,
+            exram,
+            PpuAddr(addr),
+        ),
+    }
 }
 
-pub fn each(
-    rt: &impl Print,
-    peeks: &[u8],
-    s: State,
-    prg: &[u8],
-    chr: &[u8],
-    ram: &[u8],
-    ciram: &[u8],
-    exram: &[u8],
-) -> io::Result<()> {
-    let mut at = 3;
-    while at < peeks.len() {
-        peek_at(rt, peeks, at, s, prg, chr, ram, ciram, exram)?;
-        at += 3;
+// The line of a peek: `peek`, the address, the peek's number, and the answer and the interrupt as in the line of a record.
+pub fn each(rt: &impl Print, peeks: &[[u8; 3]], s: State, lent: &Lent<'_>) -> io::Result<()> {
+    for [number, low, high] in peeks {
+        let addr = u16::from_le_bytes([*low, *high]);
+        let answer = answer(Peek::from(*number), addr, s, lent);
+        print!(rt; "peek ")?;
+        lines::call(rt, addr as u32, *number, answer, s)?;
     }
     Ok(())
 }

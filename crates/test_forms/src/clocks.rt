@@ -4,7 +4,6 @@ ghost use Rattle.scanline.specs.Clock.{clock_outcome};
 
 use answers::Answer;
 use memory::PpuAddr;
-use print::{print_number, print_text};
 use scanline::record::{ClockOutcome, ClockRecord};
 use std::io;
 
@@ -17,37 +16,18 @@ fn lent(r: ClockRecord) -> ClockOutcome
     ClockOutcome { answer, record: t }
 }
 
-fn flag(rt: &impl Print, label: &[u8], up: bool) -> io::Result<()> {
-    print_text(rt, label)?;
-    if up {
-        print_text(rt, b" 1")
-    } else {
-        print_text(rt, b" 0")
-    }
-}
-
-fn shown(rt: &impl Print, r: ClockRecord) -> io::Result<()> {
-    flag(rt, b"reading", r.reading)?;
-    print_text(rt, b", idle ")?;
-    print_number(rt, r.idle_count as u64)?;
-    flag(rt, b", in frame", r.in_frame)?;
-    flag(rt, b", previous", r.prev_some)
-}
-
-// One clock, and its line.
+// One clock, and its line; the record after it.
 fn clocked(rt: &impl Print, r: ClockRecord) -> io::Result<ClockRecord> {
-    let o = lent(r);
-    let after = o.record;
-    let answer = o.answer;
-    shown(rt, after)?;
-    if let Answer::Refused(why) = answer {
-        print_text(rt, b": ")?;
-        print_number(rt, answers::number_of(why) as u64)?;
-        print_text(rt, b"\n")?;
-    } else {
-        print_text(rt, b": taken\n")?;
+    let ClockOutcome { answer, record } = lent(r);
+    print!(rt;
+        "reading {}, idle {}, in frame {}, previous {}: ",
+        record.reading as u8, record.idle_count, record.in_frame as u8, record.prev_some as u8
+    )?;
+    match answer {
+        Answer::Refused(why) => println!(rt; "{}", answers::number_of(why))?,
+        _ => println!(rt; "taken")?,
     }
-    Ok(after)
+    Ok(record)
 }
 
 fn record(reading: bool, idle_count: u8) -> ClockRecord {
@@ -62,11 +42,10 @@ fn record(reading: bool, idle_count: u8) -> ClockRecord {
 
 // In frame after a fetch: a clock that sees the fetch, then three idle ones. The third ends the frame; one more counts anew.
 fn frame(rt: &impl Print) -> io::Result<()> {
-    let seen = clocked(rt, record(true, 2))?;
-    let one = clocked(rt, seen)?;
-    let two = clocked(rt, one)?;
-    let three = clocked(rt, two)?;
-    clocked(rt, three)?;
+    let mut r = record(true, 2);
+    for _ in 0..5 {
+        r = clocked(rt, r)?;
+    }
     Ok(())
 }
 

@@ -2,7 +2,6 @@
 ghost use Rattle.std.specs.Prelude.{◌≡◌};
 ghost use Rattle.trace.specs.Records.{record_at};
 
-use print::{print_number, print_text};
 use std::io;
 use trace::Found;
 
@@ -13,35 +12,20 @@ fn found_at(trace: &[u8], at: usize) -> Found
     trace::reader::next_record(trace::reader::advanced(trace::reader::new(trace), at))
 }
 
-#[derive(Clone, Copy)]
-struct Turn {
-    going: bool,
-    at: usize,
-}
-
-// The line of what stands at a place; whether the reader goes on, and where.
-fn print_record(rt: &impl Print, at: usize, found: Found) -> io::Result<Turn> {
-    print_text(rt, b"place ")?;
-    print_number(rt, at as u64)?;
+// The line of what stands at a place; where the reader goes on, if it does.
+fn print_record(rt: &impl Print, at: usize, found: Found) -> io::Result<Option<usize>> {
     match found {
-        Found::End => {
-            print_text(rt, b": end\n")?;
-            Ok(Turn { going: false, at })
+        Ok(None) => {
+            println!(rt; "place {at}: end")?;
+            Ok(None)
         }
-        Found::Refused(why) => {
-            print_text(rt, b": refused ")?;
-            print_number(rt, answers::number_of(why) as u64)?;
-            print_text(rt, b"\n")?;
-            Ok(Turn { going: false, at })
+        Err(why) => {
+            println!(rt; "place {at}: refused {}", answers::number_of(why))?;
+            Ok(None)
         }
-        Found::Record(call, next) => {
-            print_text(rt, b": kind ")?;
-            print_number(rt, trace::kind_of(call) as u64)?;
-            print_text(rt, b"\n")?;
-            Ok(Turn {
-                going: true,
-                at: next,
-            })
+        Ok(Some((call, next))) => {
+            println!(rt; "place {at}: kind {}", trace::kind_of(call))?;
+            Ok(Some(next))
         }
     }
 }
@@ -50,18 +34,17 @@ fn print_record(rt: &impl Print, at: usize, found: Found) -> io::Result<Turn> {
 fn read(rt: &impl Print, trace: &[u8]) -> io::Result<()> {
     let mut at = 0;
     for _ in 0..8u32 {
-        let turn = print_record(rt, at, found_at(trace, at))?;
-        if !turn.going {
+        let Some(next) = print_record(rt, at, found_at(trace, at))? else {
             break;
-        }
-        at = turn.at;
+        };
+        at = next;
     }
     Ok(())
 }
 
 // The first record alone.
 fn first(rt: &impl Print, trace: &[u8]) -> io::Result<()> {
-    print_text(rt, b"first, ")?;
+    print!(rt; "first, ")?;
     print_record(rt, 0, trace::reader::first_record(trace))?;
     Ok(())
 }

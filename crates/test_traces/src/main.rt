@@ -3,17 +3,19 @@
 // kind of record, 8,192 bytes and 8,193. oracle/README.md has the format of a case; all of these have 01's cartridge.
 #![tactic(auto)]
 
-ghost use Rattle.std.specs.Prelude.{◌≤◌, length, IfOk};
+ghost use Rattle.std.specs.Prelude.{◌<◌, length, IfSome};
 
 use std::io;
 
 // How many bytes stand before a case's trace; the last two are its length, low one first.
 const HEAD: usize = 11;
 
-fn two(low: u8, high: u8) -> usize
-    ensures { result ≤ 65535 }
+// The trace of the first case, and the bytes after the case; none where it is cut.
+fn first_case(cases: &[u8]) -> Option<(&[u8], &[u8])>
+    ensures { IfSome result (λ c. length c.1.now < length cases.now) }
 {
-    low as usize + high as usize * 256
+    let ([.., low, high], rest) = cases.split_first_chunk::<HEAD>()?;
+    rest.split_at_checked(u16::from_le_bytes([*low, *high]) as usize)
 }
 
 fn print_trace(rt: &impl Print, trace: &[u8]) -> io::Result<()> {
@@ -22,35 +24,18 @@ fn print_trace(rt: &impl Print, trace: &[u8]) -> io::Result<()> {
     print::print_first(rt, &out, length)
 }
 
-// Plays the case at the start of `rest`; how many bytes it takes, 0 where it is cut.
-fn first_case(rt: &impl Print, rest: &[u8]) -> io::Result<usize>
-    ensures { IfOk result (λ n. n ≤ length rest.now) }
-{
-    if rest.len() < HEAD {
-        return Ok(0);
-    }
-    let end = HEAD + two(rest[9], rest[10]);
-    if rest.len() < end {
-        return Ok(0);
-    }
-    print_trace(rt, &rest[HEAD..end])?;
-    Ok(end)
-}
-
 fn print_all(rt: &impl Print, cases: &[u8]) -> io::Result<()> {
-    let mut at = 0;
-    while at < cases.len() {
-        let taken = first_case(rt, &cases[at..])?;
-        if taken == 0 {
-            break;
-        }
-        at += taken;
+    let mut rest = cases;
+    while let Some((trace, after)) = first_case(rest) {
+        print_trace(rt, trace)?;
+        rest = after;
     }
     Ok(())
 }
 
+// No heap: the buffer has room for every case file of the list.
 fn main(rt: HostRuntime) -> io::Result<()> {
     let mut input = [0u8; 65536];
-    let n = print::read_input(&rt, &mut input)?;
-    print_all(&rt, &input[..n])
+    let cases = print::read_input(&rt, &mut input)?;
+    print_all(&rt, cases)
 }

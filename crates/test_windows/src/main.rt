@@ -2,8 +2,9 @@
 // buffer, or `blank`. The file `stdout` is what the Rust's own `map_prg` and `map_chr` gave (oracle/fixed/windows.answers).
 #![tactic(auto)]
 
+use memory::page_words::page_of;
+use memory::windows::{chr_window, prg_window};
 use memory::{PageWord, Src};
-use print::{print_number, print_text};
 use std::io;
 
 const PRG_LENGTHS: [u32; 13] = [
@@ -12,71 +13,46 @@ const PRG_LENGTHS: [u32; 13] = [
 
 const CHR_LENGTHS: [u32; 8] = [0, 1024, 2048, 3072, 7168, 8192, 24576, 1048576];
 
-// The first eleven are PRG's.
-const BANKS: [u32; 14] = [0, 1, 2, 3, 5, 7, 8, 63, 127, 128, 255, 1023, 1024, 8191];
+const PRG_BANKS: [u32; 11] = [0, 1, 2, 3, 5, 7, 8, 63, 127, 128, 255];
 
-fn say_page(rt: &impl Print, word: PageWord) -> io::Result<()> {
-    let page = memory::page_words::page_of(word);
-    let src = page.src;
-    if let Src::Blank = src {
-        print_text(rt, b" blank")
-    } else {
-        print_text(rt, b" ")?;
-        print_number(rt, page.index as u64)
+const CHR_BANKS: [u32; 14] = [0, 1, 2, 3, 5, 7, 8, 63, 127, 128, 255, 1023, 1024, 8191];
+
+fn print_page(rt: &impl Print, word: PageWord) -> io::Result<()> {
+    let page = page_of(word);
+    match page.src {
+        Src::Blank => print!(rt; " blank"),
+        _ => print!(rt; " {}", page.index),
     }
 }
 
-fn say_head(rt: &impl Print, window: u32, len: u32, bank: u32) -> io::Result<()> {
-    print_number(rt, window as u64)?;
-    print_text(rt, b" ")?;
-    print_number(rt, len as u64)?;
-    print_text(rt, b" ")?;
-    print_number(rt, bank as u64)?;
-    print_text(rt, b":")
-}
-
-fn prg_line(rt: &impl Print, len: u32, bank: u32) -> io::Result<()> {
-    let whole = len / 1024 * 1024;
-    let pages = memory::windows::prg_window(Src::PrgRom, whole, bank, false);
-    say_head(rt, 8192, len, bank)?;
-    say_page(rt, pages[0])?;
-    say_page(rt, pages[1])?;
-    say_page(rt, pages[2])?;
-    say_page(rt, pages[3])?;
-    say_page(rt, pages[4])?;
-    say_page(rt, pages[5])?;
-    say_page(rt, pages[6])?;
-    say_page(rt, pages[7])?;
-    print_text(rt, b"\n")
-}
-
-fn chr_line(rt: &impl Print, len: u32, bank: u32) -> io::Result<()> {
-    let page = memory::windows::chr_window(Src::Chr, len, bank, false);
-    say_head(rt, 1024, len, bank)?;
-    say_page(rt, page)?;
-    print_text(rt, b"\n")
-}
-
-fn prg_lines(rt: &impl Print, len: u32) -> io::Result<()> {
-    for i in 0..11 {
-        prg_line(rt, len, BANKS[i])?;
+// The line of a window over a buffer of some length at some bank.
+fn print_line(
+    rt: &impl Print,
+    window: u32,
+    len: u32,
+    bank: u32,
+    pages: &[PageWord],
+) -> io::Result<()> {
+    print!(rt; "{window} {len} {bank}:")?;
+    for word in pages {
+        print_page(rt, *word)?;
     }
-    Ok(())
-}
-
-fn chr_lines(rt: &impl Print, len: u32) -> io::Result<()> {
-    for i in 0..14 {
-        chr_line(rt, len, BANKS[i])?;
-    }
-    Ok(())
+    println!(rt)
 }
 
 fn main(rt: HostRuntime) -> io::Result<()> {
-    for i in 0..13 {
-        prg_lines(&rt, PRG_LENGTHS[i])?;
+    for len in PRG_LENGTHS {
+        let whole = len / 1024 * 1024;
+        for bank in PRG_BANKS {
+            let pages = prg_window(Src::PrgRom, whole, bank, false);
+            print_line(&rt, 8192, len, bank, &pages)?;
+        }
     }
-    for i in 0..8 {
-        chr_lines(&rt, CHR_LENGTHS[i])?;
+    for len in CHR_LENGTHS {
+        for bank in CHR_BANKS {
+            let page = chr_window(Src::Chr, len, bank, false);
+            print_line(&rt, 1024, len, bank, &[page])?;
+        }
     }
     Ok(())
 }

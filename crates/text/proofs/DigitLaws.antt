@@ -1,4 +1,4 @@
--- Laws of decimals: the last digit taken off, and that the digits are the number's and no others.
+-- Laws of decimals: the last digit taken off, and that the digits are the number's and no others. Of every number: std's laws of its `decimal` end at 10 ^ 64.
 use Prim.Native.Nat.{ℕ, zero, suc, ◌+◌, ◌-◌, ◌*◌, ◌/◌, ◌%◌, ◌^◌, ◌<◌, ◌≤◌}
 use mathlib.Core.List.{List, [], ◌∷◌, ◌++◌, append-nil}
 use mathlib.Core.Path.{◌≡◌, refl, sym, ap, ap₂, ◌∙◌}
@@ -9,9 +9,7 @@ use lib.Dec.{ltb}
 use lib.ListN.{length, length-append, get_or}
 use lib.Seq.{append_snoc}
 use Rattle.memory.proofs.Tests.{split}
-use Rattle.text.specs.Sheet.{Sheet, byte_placed, text_written}
 use Rattle.text.specs.Digits.{before, digits, read_on, decimal_value, AllDigits}
-use Rattle.text.proofs.SheetLaws.{one_byte, byte_after}
 
 -- What stands after the text stays after it.
 before_append : (most n : ℕ) (text rest : List ℕ) → before most n (text ++ rest) ≡ before most n text ++ rest
@@ -112,11 +110,3 @@ few_digits (suc k) n h =
     let tens : length (digits (n / 10)) ≤ suc k = few_digits k (n / 10) (omega (arith, pow-suc 10 (suc k))) in
     let e : length (digits n) ≡ length (digits (n / 10) ++ ((48 + n % 10) ∷ [])) = ap (λ (l : List ℕ). length l) (more_digits n (ltb-false n 10 t)) in
     omega (arith, length-append (digits (n / 10)) ((48 + n % 10) ∷ [])))
-
--- What one call of `decimal` writes: the only digit, or the last one after those of the tens.
-pub only_placed : (s u : Sheet) (n b : ℕ) → n < 10 → b ≡ 48 + n % 10 → u ≡ byte_placed s b → u ≡ text_written s (digits n)
-only_placed s u n b h e f = f ∙ ap (byte_placed s) e ∙ one_byte s (48 + n % 10) ∙ ap (text_written s) (sym (one_digit n h))
-
-pub last_placed : (s t u : Sheet) (n b : ℕ) → 10 ≤ n → t ≡ text_written s (digits (n / 10)) → b ≡ 48 + n % 10 → u ≡ byte_placed t b → u ≡ text_written s (digits n)
-last_placed s t u n b h d e f =
-    byte_after s t u (digits (n / 10)) (48 + n % 10) d (f ∙ ap (byte_placed t) e) ∙ ap (text_written s) (sym (more_digits n h))

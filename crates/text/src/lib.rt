@@ -6,8 +6,7 @@
 ghost use Rattle.text.specs.Promise.{Writing};
 ghost use Rattle.text.specs.Examples.{Examples};
 
-pub mod lines;
-pub mod pieces;
+pub mod pen;
 
 // No code: its contract holds what is promised of writing beyond what each function says, so that a proof that goes missing fails the check.
 pub fn promises()
@@ -15,6 +14,7 @@ pub fn promises()
 {}
 
 // No code: its contract holds the worked cases.
+#[tactic(auto, unfolding(crate::specs::Sheet::byte_placed, crate::specs::Sheet::text_written, crate::specs::Digits::before, crate::specs::Lines::line))]
 pub fn examples()
     ensures { Examples }
 {}

@@ -17,8 +17,7 @@ use Rattle.banks.specs.Placed.{placed}
 use Rattle.banks.proofs.PlacedLaws.{length_placed}
 use Rattle.state.specs.declared.Lengths.{Lengths}
 use Rattle.state.specs.declared.State.{State}
-use Rattle.state.specs.declared.gate.Gate.TheVariants.{Open}
-use Rattle.state.specs.Gate.{same_lengths, gate_mem}
+use Rattle.state.specs.Gate.{Open, same_lengths, gate_mem}
 use Rattle.cpu.specs.Groups.{within}
 use Rattle.cpu.specs.Reads.{cpu_answer, page_answer}
 use Rattle.cpu.specs.Writes.{audio_write, register_written, cpu_stored, prg_word_at}

@@ -24,9 +24,8 @@ use Rattle.banks.specs.Chr.{background, window_pages, chr_number, chr_mapped}
 use Rattle.banks.proofs.PlacedLaws.{entry_placed, length_placed}
 use Rattle.scanline.specs.Ranges.{counter_refused}
 use Rattle.scanline.specs.Tiles.{sprite_fetch}
-use Rattle.state.specs.declared.gate.Gate.TheVariants.{Open}
 use Rattle.state.specs.declared.State.{State}
-use Rattle.state.specs.Gate.{gate_mem}
+use Rattle.state.specs.Gate.{Open, gate_mem}
 use Rattle.state.proofs.GateLaws.{open_same_lengths, range_lengths}
 use Rattle.state.proofs.SizeLaws.{lengths_say}
 use Rattle.cpu.specs.Chosen.{chosen, set_changed}

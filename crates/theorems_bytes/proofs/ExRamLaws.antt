@@ -24,8 +24,7 @@ use Rattle.scanline.specs.declared.Detector.{Detector}
 use Rattle.split.specs.declared.VSplit.{VSplit}
 use Rattle.banks.specs.Prg.{exram_page}
 use Rattle.state.specs.declared.State.{State}
-use Rattle.state.specs.declared.gate.Gate.TheVariants.{Open}
-use Rattle.state.specs.Gate.{gate_mem}
+use Rattle.state.specs.Gate.{Open, gate_mem}
 use Rattle.state.specs.With.{with_regs}
 use Rattle.cpu.specs.Groups.{within}
 use Rattle.cpu.specs.Reads.{page_answer, register_at, register_read, cpu_answer, audio_read}

@@ -31,8 +31,7 @@ use Rattle.ppu.specs.Fetches.{split_seen}
 use Rattle.ppu.specs.Served.{direct, ex_offset, split_byte, split_serves, counted_served, pattern_served}
 use Rattle.ppu.proofs.ServedLaws.{counted_is}
 use Rattle.state.specs.declared.State.{State}
-use Rattle.state.specs.declared.gate.Gate.TheVariants.{Open}
-use Rattle.state.specs.Gate.{gate_mem}
+use Rattle.state.specs.Gate.{Open, gate_mem}
 use Rattle.board.specs.CpuSide.{cpu_write}
 use Rattle.board_ppu.specs.Counted.{counted_irq, counted_split}
 use Rattle.board_ppu.specs.Fetch.{pattern_call, ppu_fetch}

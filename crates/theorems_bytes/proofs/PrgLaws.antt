@@ -24,9 +24,8 @@ use Rattle.answers.specs.declared.Answer.TheVariants.{Page as FromPage}
 use Rattle.registers.specs.Registers.{unlocked, written}
 use Rattle.banks.specs.Placed.{placed}
 use Rattle.banks.specs.Prg.{prg_values, prg_value_pages, page_from6000, prg_mapped}
-use Rattle.state.specs.declared.gate.Gate.TheVariants.{Open}
 use Rattle.state.specs.declared.State.{State}
-use Rattle.state.specs.Gate.{gate_mem}
+use Rattle.state.specs.Gate.{Open, gate_mem}
 use Rattle.state.proofs.GateLaws.{open_in_range, open_same_lengths, range_lengths}
 use Rattle.state.proofs.SizeLaws.{lengths_say}
 use Rattle.cpu.specs.Groups.{prg_banks_after}

@@ -5,8 +5,7 @@ use Rattle.memory.specs.Tests.{pick}
 use Rattle.answers.specs.declared.Answer.{Answer}
 use Rattle.answers.specs.declared.Answer.TheVariants.{Page, Blank}
 use Rattle.state.specs.declared.State.{State}
-use Rattle.state.specs.declared.gate.Gate.TheVariants.{Open}
-use Rattle.state.specs.Gate.{gate_mem}
+use Rattle.state.specs.Gate.{Open, gate_mem}
 use Rattle.board.specs.Outcomes.{After}
 use Rattle.board.specs.CpuSide.{cpu_read}
 use Rattle.board_ppu.specs.Fetch.{ppu_fetch}

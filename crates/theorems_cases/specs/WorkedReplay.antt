@@ -8,8 +8,7 @@ use Rattle.registers.specs.declared.Mirroring.TheVariants.{Horizontal}
 use Rattle.board.specs.Loads.{load_call}
 use Rattle.trace.specs.Cartridge.{cartridge}
 use Rattle.trace.specs.Examples.{worked}
-use Rattle.player.specs.declared.Ending.TheVariants.{Done, Stopped}
-use Rattle.player.specs.Replay.{Left, replayed}
+use Rattle.player.specs.Replay.{Done, Stopped, Left, replayed}
 
 -- A trace replayed from load on, with a log of 14 bytes.
 abbrev pub replay_over : List ℕ → Left

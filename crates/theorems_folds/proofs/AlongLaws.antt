@@ -12,10 +12,9 @@ use Rattle.scanline.specs.declared.Detector.{Detector}
 use Rattle.scanline.specs.Fetches.{counted_at}
 use Rattle.scanline.specs.Steps.{seen_at}
 use Rattle.scanline.specs.Tiles.{fold, column_of}
-use Rattle.state.specs.declared.gate.Gate.TheVariants.{Open}
 use Rattle.state.specs.declared.PpuStatus.{PpuStatus}
 use Rattle.state.specs.declared.State.{State}
-use Rattle.state.specs.Gate.{gate_mem}
+use Rattle.state.specs.Gate.{Open, gate_mem}
 use Rattle.cpu.specs.Chosen.{chosen, ppu_after}
 use Rattle.cpu.specs.Groups.{within}
 use Rattle.cpu.specs.Writes.{register_written}

@@ -14,10 +14,9 @@ use Rattle.scanline.specs.Fetches.{counted_at, name_at}
 use Rattle.scanline.specs.Tiles.{fold, raised_by, left_after}
 use Rattle.scanline.proofs.FoldLaws.{turns, four_looks}
 use Rattle.split.specs.declared.VSplit.{VSplit}
-use Rattle.state.specs.declared.gate.Gate.TheVariants.{Open}
 use Rattle.state.specs.declared.PpuStatus.{PpuStatus}
 use Rattle.state.specs.declared.State.{State}
-use Rattle.state.specs.Gate.{gate_mem}
+use Rattle.state.specs.Gate.{Open, gate_mem}
 use Rattle.cpu.specs.Chosen.{chosen, ppu_after}
 use Rattle.cpu.specs.Groups.{within}
 use Rattle.cpu.specs.Reads.{cpu_answer, audio_read}

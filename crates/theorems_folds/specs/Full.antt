@@ -2,7 +2,7 @@
 -- definitions are the board's own, handed that number; only a name fetch raises it by one (`raised_full`) and never turns it over. No code has it. A call is
 -- told as it is where it is accepted: behind an open gate, and where it meets no refusal.
 -- Assumes nothing.
-use Rattle.std.specs.Prelude.{ℕ, List, [], ◌∷◌, not, ◌||◌, leb, ltb}
+use Rattle.std.specs.Prelude.{ℕ, List, [], ◌∷◌, not, ◌||◌, leb, ltb, Ok}
 use Rattle.memory.specs.Bytes.{Mem}
 use Rattle.memory.specs.Tests.{pick}
 use Rattle.memory.specs.PageWords.{page_of}
@@ -22,8 +22,6 @@ use Rattle.ppu.specs.Cache.{cache_after}
 use Rattle.ppu.specs.Fetches.{split_seen}
 use Rattle.ppu.specs.Served.{counted_served, pattern_served, sprite_byte}
 use Rattle.board.specs.declared.Outcome.{Outcome}
-use Rattle.board.specs.declared.InterruptAnswer.TheVariants.{Up, Down}
-use Rattle.board.specs.declared.MirroringAnswer.TheVariants.{Is}
 use Rattle.board.specs.Outcomes.{outcome, After}
 use Rattle.board_ppu.specs.Fetch.{pattern_call}
 use Rattle.board_ppu.specs.Peeks.{chr_word_at, chr_answer}
@@ -92,8 +90,8 @@ full_says b (call c) = answers (full_called c b.state b.mem).out.answer
 full_says b (peek a) = answers (cpu_answer b.state b.mem a.0)
 full_says b (ppu_peek_lem a) = answers (full_peek b.state b.mem a.0)
 full_says b (sprite_peek_lem a) = answers (pick (not b.state.ppu.sprite8x16 || leb 0x2000 a.0) Nothing (Served (sprite_byte b.state.regs b.state.chr_banks b.mem.chr a.0)))
-full_says b mirroring_asked = mirrors (Is b.state.screen.mirroring)
-full_says b interrupt_asked = interrupts (pick (interrupt_up b.state.irq) Up Down)
+full_says b mirroring_asked = mirrors (Ok b.state.screen.mirroring)
+full_says b interrupt_asked = interrupts (Ok (interrupt_up b.state.irq))
 full_says b (cpu_page a) = let p = page_of (prg_word_at b.state.prg_pages a.0) in shows (cpu_shows b.mem p.src p.index)
 full_says b (ppu_page a) = let p = page_of (chr_word_at b.state.chr_pages a.0) in shows (ppu_shows b.mem p.src p.index)
 

@@ -7,9 +7,8 @@ use Rattle.registers.specs.declared.Regs.{Regs}
 use Rattle.scanline.specs.declared.Detector.{Detector}
 use Rattle.scanline.specs.Tiles.{fold}
 use Rattle.split.specs.declared.VSplit.{VSplit}
-use Rattle.state.specs.declared.gate.Gate.TheVariants.{Open}
 use Rattle.state.specs.declared.PpuStatus.{PpuStatus}
-use Rattle.state.specs.Gate.{gate_mem}
+use Rattle.state.specs.Gate.{Open, gate_mem}
 use Rattle.cpu.specs.Chosen.{chosen, ppu_after}
 use Rattle.cpu.specs.PpuRegisters.{status_after}
 use Rattle.ppu.specs.Cache.{cache_after}

@@ -8,10 +8,9 @@ use Rattle.memory.proofs.Tests.{pick_keeps, and_left, and_right, and_both}
 use Rattle.registers.specs.declared.Mirroring.{Mirroring}
 use Rattle.scanline.specs.declared.Detector.{Detector}
 use Rattle.scanline.specs.Steps.{detector_at_load}
-use Rattle.state.specs.declared.gate.Gate.TheVariants.{Open}
 use Rattle.state.specs.declared.Lengths.{Lengths}
 use Rattle.state.specs.declared.State.{State}
-use Rattle.state.specs.Gate.{gate_mem}
+use Rattle.state.specs.Gate.{Open, gate_mem}
 use Rattle.state.specs.Lengths.{prg_taken, chr_taken, ram_taken}
 use Rattle.board.specs.declared.Outcome.{Outcome}
 use Rattle.board.specs.Loads.{zero_state, recorded, load_call, loaded_state}

@@ -5,6 +5,7 @@ use mathlib.Core.Bool.{Bool, true, false}
 use mathlib.Core.Path.{◌≡◌, refl, sym, ◌∙◌, ap}
 use native.Mathlib.Omega.{arith}
 use lib.Dec.{ltb}
+use Rattle.std.specs.Prelude.{Result, Ok, Err}
 use Rattle.memory.specs.Bytes.{Mem}
 use Rattle.memory.specs.Tests.{pick}
 use Rattle.memory.proofs.Tests.{split}
@@ -19,14 +20,10 @@ use Rattle.answers.proofs.NumberLaws.{numbered}
 use Rattle.scanline.specs.Fetches.{counted_at}
 use Rattle.scanline.specs.Ranges.{counter_refused}
 use Rattle.scanline.specs.Steps.{interrupt_up}
-use Rattle.state.specs.declared.gate.Gate.{Gate}
-use Rattle.state.specs.declared.gate.Gate.TheVariants.{Open, Shut}
 use Rattle.state.specs.declared.State.{State}
-use Rattle.state.specs.Gate.{gate_mem}
+use Rattle.state.specs.Gate.{Gate, Open, Shut, gate_mem}
 use Rattle.cpu.specs.Reads.{audio_read}
 use Rattle.cpu.specs.Writes.{audio_write}
-use Rattle.board.specs.declared.InterruptAnswer.{InterruptAnswer}
-use Rattle.board.specs.declared.InterruptAnswer.TheVariants.{Up, Down}
 use Rattle.board.specs.declared.Outcome.{Outcome}
 use Rattle.board.specs.CpuSide.{cpu_read, cpu_write}
 use Rattle.board.specs.Outcomes.{outcome, refused, After, after_of}
@@ -89,10 +86,9 @@ with_number n s o r =
     refused_or_not o.answer (λ why e. ap number_in e ∙ sym (ap value_of e) ∙ r.number)
     (λ f. absurd (omega (arith, r.letter, (letter_range o.answer).1 f)))
 
-pub told : (i : InterruptAnswer) (up : Bool) → i ≡ pick up Up Down → number (interrupts i) ≡ 0
+pub told : (i : Result Bool Refusal) (up : Bool) → i ≡ Ok up → number (interrupts i) ≡ 0
 unfolding number
-told i true e = rw e
-told i false e = rw e
+told i up e = rw e
 
 read_exactly : (s : State) (m : Mem) (a : ℕ) → gate_mem s m ≡ Open → number_in (cpu_read s m a).answer ≡ pick (audio_read a) 6 0
 read_exactly s m a h =
@@ -126,8 +122,8 @@ exactly b (ppu_page a) h = refl
 
 -- A call that is accepted meets no refusal, and is done.
 pub gate_case : {A : Type 0} (g : Gate) → (g ≡ Open → A) → ((r : Refusal) → g ≡ Shut r → A) → A
-gate_case Open f k = f refl
-gate_case (Shut r) f k = k r refl
+gate_case (Ok u) f k = f refl
+gate_case (Err r) f k = k r refl
 
 abbrev Passed : Board → Call → Type 0
 Passed b c = (called c b.state b.mem ≡ done c b.state b.mem) × (refusal (view b) (call c) ≡ 0)

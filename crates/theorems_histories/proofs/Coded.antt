@@ -3,6 +3,7 @@ use Prim.Native.Nat.{ℕ}
 use mathlib.Core.Bool.{true, false}
 use mathlib.Core.List.{List, []}
 use mathlib.Core.Path.{◌≡◌, refl, sym, ◌∙◌, ap, subst}
+use Rattle.std.specs.Prelude.{Ok, Err}
 use Rattle.std.specs.Borrow.{Bor, MutBor}
 use Rattle.memory.specs.declared.Page.{Page}
 use Rattle.memory.specs.declared.Src.{Src}
@@ -11,10 +12,8 @@ use Rattle.memory.specs.Bytes.{Mem, mem_of, stored_at, page_stored}
 use Rattle.memory.proofs.Tests.{split, pick_keeps}
 use Rattle.answers.specs.declared.Refusal.{Refusal}
 use Rattle.answers.specs.declared.Refusal.TheVariants.{State as StateBroken}
-use Rattle.state.specs.declared.gate.Gate.{Gate}
-use Rattle.state.specs.declared.gate.Gate.TheVariants.{Open, Shut}
 use Rattle.state.specs.declared.State.{State}
-use Rattle.state.specs.Gate.{gate_of, gate_mem}
+use Rattle.state.specs.Gate.{Gate, Shut, gate_of, gate_mem}
 use Rattle.state.specs.Ranges.{in_range}
 use Rattle.state.proofs.GateLaws.{passes}
 use Rattle.cpu.specs.Writes.{audio_write, cpu_stored}
@@ -90,8 +89,8 @@ unfolding page_stored
 page_rom m p a v = pick_keeps (λ (x : Mem). x.prg ≡ m.prg) p.writable (stored_rom m p.src _ v) refl
 
 behind_keeps : {A : Type 0} (P : A → Type 0) (g : Gate) {f : Refusal → A} {x : A} → ((r : Refusal) → P (f r)) → P x → P (behind g f x)
-behind_keeps P Open k h = h
-behind_keeps P (Shut r) k h = k r
+behind_keeps P (Ok u) k h = h
+behind_keeps P (Err r) k h = k r
 
 rom : (c : Call) (s : State) (m : Mem) → (called c s m).mem.prg ≡ m.prg
 unfolding cpu_write ppu_write cpu_stored

@@ -3,18 +3,16 @@ use mathlib.Core.Bool.{Bool, true, false, false≢true}
 use mathlib.Core.List.{List, ◌∷◌, ◌++◌}
 use mathlib.Core.Logic.{◌↔◌}
 use mathlib.Core.Path.{◌≡◌, refl, sym, ◌∙◌, ap}
+use Rattle.std.specs.Prelude.{Result, Ok, Err}
 use Rattle.memory.specs.Bytes.{Mem}
-use Rattle.memory.specs.Tests.{pick}
 use Rattle.answers.specs.declared.Answer.TheVariants.{Register}
+use Rattle.answers.specs.declared.Refusal.{Refusal}
 use Rattle.scanline.specs.declared.Detector.{Detector}
 use Rattle.scanline.specs.Steps.{status_of, interrupt_up}
-use Rattle.state.specs.declared.gate.Gate.TheVariants.{Open}
 use Rattle.state.specs.declared.State.{State}
-use Rattle.state.specs.Gate.{gate_mem}
+use Rattle.state.specs.Gate.{Open, gate_mem}
 use Rattle.state.specs.Ranges.{in_range}
 use Rattle.cpu.specs.Reads.{register_at, register_read, cpu_answer}
-use Rattle.board.specs.declared.InterruptAnswer.{InterruptAnswer}
-use Rattle.board.specs.declared.InterruptAnswer.TheVariants.{Up, Down, Refused as InterruptRefused}
 use Rattle.board.specs.CpuSide.{cpu_read}
 use Rattle.board.specs.StateCalls.{interrupt_call}
 use Rattle.theorems_scanlines.specs.Told.{told_status, Up as ToldUp}
@@ -38,20 +36,21 @@ board_demand_3 l = any_machine Board Made (first l) Takes view event (starts l) 
 
 -- The interrupt -------------------------------------------------------------------------------------------------------------------------
 
-abbrev is_up : InterruptAnswer → Bool
-is_up Up = true
-is_up Down = false
-is_up (InterruptRefused r) = false
+abbrev is_up : Result Bool Refusal → Bool
+is_up (Ok up) = up
+is_up (Err r) = false
 
-up_says : (u : Bool) → (pick u Up Down ≡ Up) ↔ (u ≡ true)
-up_says true = (λ e. refl, λ e. refl)
-up_says false = (λ e. absurd (false≢true (ap is_up e)), λ e. absurd (false≢true e))
+abbrev told_as : Bool → Result Bool Refusal
+told_as up = Ok up
 
-down_says : (u : Bool) → (pick u Up Down ≡ Down) ↔ (u ≡ true → ⊥)
+up_says : (u : Bool) → (told_as u ≡ told_as true) ↔ (u ≡ true)
+up_says u = (λ e. ap is_up e, λ e. ap told_as e)
+
+down_says : (u : Bool) → (told_as u ≡ told_as false) ↔ (u ≡ true → ⊥)
 down_says true = (λ e. absurd (false≢true (sym (ap is_up e))), λ f. absurd (f refl))
 down_says false = (λ e t. false≢true t, λ f. refl)
 
-asks : (s : State) → in_range s ≡ true → interrupt_call s ≡ pick (interrupt_up s.irq) Up Down
+asks : (s : State) → in_range s ≡ true → interrupt_call s ≡ Ok (interrupt_up s.irq)
 unfolding interrupt_call
 asks s h = rw h
 
@@ -72,16 +71,16 @@ module _ (l : Load) (cs : List Made) (b : Board) (r : Reached l cs b) where
       ∙ ap (λ (d : Detector). Register (status_of d)) (told_along l r)
       ∙ ap Register (status_told (history_of event cs))
 
-  pub asked_at : interrupt_call b.state ≡ pick (interrupt_up (view b)) Up Down
+  pub asked_at : interrupt_call b.state ≡ Ok (interrupt_up (view b))
   asked_at = asks b.state (in_range_of b.state b.mem (open_along l r))
 
-  told_up : (interrupt_call b.state ≡ Up) ↔ ToldUp (history_of event cs)
+  told_up : (interrupt_call b.state ≡ Ok true) ↔ ToldUp (history_of event cs)
   told_up =
       let u = up_says (interrupt_up (view b)) in
       let i = (board_demand_3 l).interrupt r in
       (λ e. i.0 (u.0 (sym asked_at ∙ e)), λ t. asked_at ∙ u.1 (i.1 t))
 
-  told_down : (interrupt_call b.state ≡ Down) ↔ (ToldUp (history_of event cs) → ⊥)
+  told_down : (interrupt_call b.state ≡ Ok false) ↔ (ToldUp (history_of event cs) → ⊥)
   told_down =
       let u = down_says (interrupt_up (view b)) in
       let i = (board_demand_3 l).interrupt r in

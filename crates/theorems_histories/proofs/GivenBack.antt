@@ -2,6 +2,7 @@
 use Prim.Native.Nat.{ℕ}
 use mathlib.Core.Bool.{Bool, true, false}
 use mathlib.Core.Path.{◌≡◌, refl, sym, ◌∙◌, ap}
+use Rattle.std.specs.Prelude.{Ok, Err}
 use Rattle.memory.specs.Bytes.{Mem}
 use Rattle.memory.specs.Tests.{pick}
 use Rattle.memory.proofs.Tests.{split}
@@ -9,10 +10,8 @@ use Rattle.answers.specs.declared.Refusal.{Refusal}
 use Rattle.answers.specs.Numbers.{number_of}
 use Rattle.scanline.specs.Ranges.{counter_refused}
 use Rattle.scanline.specs.Steps.{interrupt_up}
-use Rattle.state.specs.declared.gate.Gate.{Gate}
-use Rattle.state.specs.declared.gate.Gate.TheVariants.{Open, Shut}
 use Rattle.state.specs.declared.State.{State}
-use Rattle.state.specs.Gate.{gate_of, gate_mem}
+use Rattle.state.specs.Gate.{Gate, Open, Shut, gate_of, gate_mem}
 use Rattle.state.specs.Ranges.{in_range}
 use Rattle.cpu.specs.Reads.{audio_read}
 use Rattle.cpu.specs.Writes.{audio_write}
@@ -33,8 +32,8 @@ Opened b = gate_mem b.state b.mem ≡ Open
 
 -- What 4 and 5 come to, by the gate.
 abbrev gated : Gate → ℕ → ℕ
-gated Open n = n
-gated (Shut r) n = number_of r
+gated (Ok u) n = n
+gated (Err r) n = number_of r
 
 by_gate : (b : Board) (n : ℕ) → gated (gate_mem b.state b.mem) n ≡ over_buffers b n
 unfolding gate_of

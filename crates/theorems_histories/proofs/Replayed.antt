@@ -16,19 +16,16 @@ use Rattle.answers.specs.Numbers.{number_of}
 use Rattle.answers.proofs.Cases.{if_refused_lem}
 use Rattle.scanline.specs.Ranges.{counter_refused}
 use Rattle.scanline.specs.Steps.{interrupt_up}
-use Rattle.state.specs.declared.gate.Gate.TheVariants.{Shut}
-use Rattle.state.specs.Gate.{gate_mem}
+use Rattle.state.specs.Gate.{Shut, gate_mem}
 use Rattle.cpu.specs.Reads.{audio_read}
 use Rattle.cpu.specs.Writes.{audio_write}
 use Rattle.trace.specs.declared.Call.{Call}
 use Rattle.trace.specs.declared.Call.TheVariants.{Clock, CpuRead, CpuWrite, PpuRegister, PpuFetch, Reset, PpuWrite}
-use Rattle.trace.specs.declared.Found.TheVariants.{End, Record, Refused as Unreadable}
-use Rattle.trace.specs.Records.{record_at}
+use Rattle.trace.specs.Records.{End, Record, Refused as Unreadable, record_at}
 use Rattle.trace.proofs.RecordLaws.{none_read, record_advances, record_refused}
 use Rattle.theorems_scanlines.specs.Calls.Played.{at_load, taken}
-use Rattle.player.specs.declared.Ending.TheVariants.{Stopped}
 use Rattle.logs.specs.Logs.{logged}
-use Rattle.player.specs.Replay.{Left, ended, played_from, played, replayed}
+use Rattle.player.specs.Replay.{Stopped, Left, ended, played_from, played, replayed}
 use Rattle.player.proofs.Ways.{by_found}
 use Rattle.theorems_histories.specs.Boards.{Board, Made, says, leaves, board_after, number, number_in}
 use Rattle.theorems_histories.specs.Boards.Made.{call}

@@ -1,19 +1,17 @@
 -- What a call is, what it says, and what it leaves. Demand 2 speaks of "every sequence of accepted calls from load"; 01 of demand 3: "Demand 3 is
 -- stated over demand 2's calls: each takes the state and the memories as the call before it left them."
 -- Assumes nothing.
-use Rattle.std.specs.Prelude.{ℕ, Bool, List, [], ◌∷◌, length}
+use Rattle.std.specs.Prelude.{ℕ, Bool, List, [], ◌∷◌, length, Result, Ok, Err}
 use Rattle.memory.specs.declared.CpuAddr.{CpuAddr}
 use Rattle.memory.specs.declared.PpuAddr.{PpuAddr}
 use Rattle.memory.specs.Bytes.{Mem}
 use Rattle.answers.specs.declared.Answer.{Answer}
+use Rattle.answers.specs.declared.Refusal.{Refusal}
 use Rattle.answers.specs.Numbers.{number_of}
 use Rattle.answers.specs.Refused.{if_refused}
+use Rattle.registers.specs.declared.Mirroring.{Mirroring}
 use Rattle.state.specs.declared.State.{State}
 use Rattle.state.specs.Gate.{same_lengths}
-use Rattle.board.specs.declared.InterruptAnswer.{InterruptAnswer}
-use Rattle.board.specs.declared.InterruptAnswer.TheVariants as interrupt
-use Rattle.board.specs.declared.MirroringAnswer.{MirroringAnswer}
-use Rattle.board.specs.declared.MirroringAnswer.TheVariants as mirroring
 use Rattle.board.specs.CpuSide.{cpu_peek}
 use Rattle.board.specs.StateCalls.{mirroring_call, interrupt_call}
 use Rattle.board_ppu.specs.Peeks.{ppu_peek, sprite_peek}
@@ -42,8 +40,8 @@ pub data Made : Type 0 where
 -- What a call says: an answer, the mirroring, whether the interrupt is up, or the bytes of a page.
 pub data Said : Type 0 where
   answers : Answer → Said
-  mirrors : MirroringAnswer → Said
-  interrupts : InterruptAnswer → Said
+  mirrors : Result Mirroring Refusal → Said
+  interrupts : Result Bool Refusal → Said
   shows : List ℕ → Said
 
 unfoldable pub says : Board → Made → Said
@@ -78,11 +76,10 @@ number_in a = if_refused a number_of 0
 
 unfoldable pub number : Said → ℕ
 number (answers a) = number_in a
-number (mirrors (mirroring.Is m)) = 0
-number (mirrors (mirroring.Refused r)) = number_of r
-number (interrupts interrupt.Up) = 0
-number (interrupts interrupt.Down) = 0
-number (interrupts (interrupt.Refused r)) = number_of r
+number (mirrors (Ok m)) = 0
+number (mirrors (Err r)) = number_of r
+number (interrupts (Ok up)) = 0
+number (interrupts (Err r)) = number_of r
 number (shows l) = 0
 
 -- "a lent length differs from the one recorded at load"

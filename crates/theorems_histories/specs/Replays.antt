@@ -2,7 +2,7 @@
 -- refusals also tell the record's place, the offset of its kind byte". What a replay leaves is `replayed` of crate `player`, which the contract
 -- of `player::replay` names. The promise is `Replays`, at the end; above it, in order, what it speaks of.
 -- Assumes nothing.
-use Rattle.std.specs.Prelude.{ℕ, zero, suc, ◌+◌, ◌*◌, ◌<◌, ◌≤◌, List, [], ◌∷◌, ◌++◌, map, ◌⊎◌, ◌≡◌, ltb, length, get_or}
+use Rattle.std.specs.Prelude.{ℕ, zero, suc, ◌+◌, ◌*◌, ◌<◌, ◌≤◌, Ok, Err, List, [], ◌∷◌, ◌++◌, map, ◌⊎◌, ◌≡◌, ltb, length, get_or}
 use Rattle.memory.specs.Tests.{pick}
 use Rattle.answers.specs.declared.Answer.{Answer}
 use Rattle.answers.specs.declared.Answer.TheVariants.{Refused}
@@ -11,16 +11,12 @@ use Rattle.answers.specs.declared.Refusal.TheVariants.{Length}
 use Rattle.answers.specs.Letters.{value_of}
 use Rattle.answers.specs.Numbers.{number_of}
 use Rattle.scanline.specs.Steps.{interrupt_up}
-use Rattle.state.specs.declared.gate.Gate.TheVariants.{Open, Shut}
-use Rattle.state.specs.Gate.{gate_mem}
+use Rattle.state.specs.Gate.{Open, Shut, gate_mem}
 use Rattle.trace.specs.declared.Call.{Call}
-use Rattle.trace.specs.declared.Found.TheVariants.{Record, Refused as Unreadable}
-use Rattle.trace.specs.Records.{record_at}
+use Rattle.trace.specs.Records.{Record, Refused as Unreadable, record_at}
 use Rattle.calls.specs.Called.{called}
-use Rattle.player.specs.declared.Ending.{Ending}
-use Rattle.player.specs.declared.Ending.TheVariants.{Done, Stopped}
 use Rattle.logs.specs.Logs.{log_letter, logged}
-use Rattle.player.specs.Replay.{Left, ended, found, replayed}
+use Rattle.player.specs.Replay.{Ending, Done, Stopped, Left, ended, found, replayed}
 use Rattle.theorems_histories.specs.Boards.{Board, Made, says, leaves, board_after}
 use Rattle.theorems_histories.specs.Boards.Made.{call}
 use Rattle.theorems_histories.specs.Boards.Said.{answers}
@@ -36,8 +32,8 @@ records_to (suc n) trace place at cs =
 
 -- Where a replay ends: behind the last record, or at the one that it stopped at.
 abbrev pub end_of : List ℕ → Ending → ℕ
-end_of trace (Done count) = length trace
-end_of trace (Stopped place why) = place
+end_of trace (Ok count) = length trace
+end_of trace (Err stopped) = stopped.place
 
 -- "records before the refused one"; all records, if none is refused. A trace has no more records than bytes.
 abbrev pub played_calls : List ℕ → Ending → List Call

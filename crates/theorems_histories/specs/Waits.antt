@@ -2,11 +2,10 @@
 -- game is served at the (n - s)th next line and no sooner". Here s is 0 and n is 2: one line and two fetches of the next, and then the line
 -- that the game is served at. The calls are accepted from every load, so `BoardDemand3` speaks of something; and there are loads.
 -- Assumes nothing.
-use Rattle.std.specs.Prelude.{◌≡◌, true, false, List, [], ◌∷◌, ◌++◌, replicate}
+use Rattle.std.specs.Prelude.{◌≡◌, true, false, List, [], ◌∷◌, ◌++◌, replicate, Ok}
 use Rattle.memory.specs.Bytes.{Mem, mem_of}
 use Rattle.answers.specs.declared.Answer.TheVariants.{Nothing}
 use Rattle.registers.specs.declared.Mirroring.TheVariants.{Horizontal}
-use Rattle.board.specs.declared.InterruptAnswer.TheVariants.{Up, Down}
 use Rattle.board.specs.Loads.{load_call}
 use Rattle.board.specs.StateCalls.{interrupt_call}
 use Rattle.theorems_scanlines.specs.Told.{line_at, Waiting, new_lines, calm}
@@ -31,10 +30,10 @@ pub record WorkedWait (l : Load) : Type 0 where
   pub waiting : Waiting (history_of event before) 0 2
   pub undisturbed : calm (history_of event between) (history_of event before) ≡ true
   pub short : new_lines (history_of event between) (history_of event before) ≡ 1
-  pub unserved : (b : Board) × Reached l (between ++ before) b × (interrupt_call b.state ≡ Down)
+  pub unserved : (b : Board) × Reached l (between ++ before) b × (interrupt_call b.state ≡ Ok false)
   pub line : line_at (event last) (history_of event (between ++ before)) ≡ true
   pub full : new_lines (history_of event (last ∷ between)) (history_of event before) ≡ 2
-  pub served : (b : Board) × Reached l (last ∷ (between ++ before)) b × (interrupt_call b.state ≡ Up)
+  pub served : (b : Board) × Reached l (last ∷ (between ++ before)) b × (interrupt_call b.state ≡ Ok true)
 
 -- The smallest cartridge: PRG-ROM 8,192, no CHR and no PRG-RAM.
 abbrev pub smallest : Mem

@@ -2,16 +2,15 @@
 use Prim.Native.Nat.{ℕ}
 use mathlib.Core.Bool.{true, false, false≢true}
 use mathlib.Core.Path.{◌≡◌, refl, sym, ◌∙◌, ap}
+use Rattle.std.specs.Prelude.{Ok, Err}
 use Rattle.memory.specs.Bytes.{Mem}
 use Rattle.memory.proofs.Tests.{split}
 use Rattle.answers.specs.declared.Answer.{Answer}
 use Rattle.answers.specs.declared.Refusal.{Refusal}
 use Rattle.answers.specs.Refused.{is_refused}
 use Rattle.scanline.specs.Ranges.{counter_refused}
-use Rattle.state.specs.declared.gate.Gate.{Gate}
-use Rattle.state.specs.declared.gate.Gate.TheVariants.{Open, Shut}
 use Rattle.state.specs.declared.State.{State}
-use Rattle.state.specs.Gate.{gate_mem}
+use Rattle.state.specs.Gate.{Gate, Open, Shut, gate_mem}
 use Rattle.state.specs.Ranges.{in_range}
 use Rattle.cpu.specs.Reads.{audio_read}
 use Rattle.cpu.specs.Writes.{audio_write}
@@ -24,8 +23,8 @@ use Rattle.board_ppu.specs.Peeks.{ppu_write}
 use Rattle.theorems_promises.proofs.Promised.{who_is_refused}
 
 gate_case : {P : Type 0} (g : Gate) → (g ≡ Open → P) → ((r : Refusal) → g ≡ Shut r → P) → P
-gate_case Open f k = f refl
-gate_case (Shut r) f k = k r refl
+gate_case (Ok u) f k = f refl
+gate_case (Err r) f k = k r refl
 
 not_both : {P : Type 0} (a : Answer) → is_refused a ≡ true → is_refused a ≡ false → P
 not_both a y n = absurd (false≢true (sym n ∙ y))

@@ -5,14 +5,14 @@ use mathlib.Core.List.{List, ◌∷◌}
 use mathlib.Core.Logic.{◌↔◌}
 use mathlib.Core.Path.{◌≡◌, refl, sym, ◌∙◌, ap, subst}
 use native.Mathlib.Omega.{arith}
+use Rattle.std.specs.Prelude.{Result, Ok, Err}
 use Rattle.memory.specs.Tests.{pick}
 use Rattle.answers.specs.declared.Answer.{Answer}
+use Rattle.answers.specs.declared.Refusal.{Refusal}
 use Rattle.answers.specs.Refused.{is_refused}
 use Rattle.answers.proofs.Cases.{letter_range}
 use Rattle.scanline.specs.declared.Detector.{Detector}
 use Rattle.scanline.specs.Steps.{interrupt_up}
-use Rattle.board.specs.declared.InterruptAnswer.{InterruptAnswer}
-use Rattle.board.specs.declared.InterruptAnswer.TheVariants.{Up as IsUp, Down, Refused as InterruptRefused}
 use Rattle.board.specs.StateCalls.{interrupt_call}
 use Rattle.trace.specs.declared.Call.{Call}
 use Rattle.trace.specs.Promise.{InRange}
@@ -111,10 +111,10 @@ plain_small x cs h c d m g =
 
 -- The interrupt asked for ------------------------------------------------------------------------------------------------------------------
 
-one_is_up : (i : InterruptAnswer) → (answer_interrupt i ≡ 1) ↔ (i ≡ IsUp)
-one_is_up IsUp = (λ e. refl, λ e. refl)
-one_is_up Down = (λ e. absurd (omega (arith, e)), λ e. absurd (omega (arith, ap answer_interrupt e)))
-one_is_up (InterruptRefused r) = (λ e. absurd (omega (arith, e)), λ e. absurd (omega (arith, ap answer_interrupt e)))
+one_is_up : (i : Result Bool Refusal) → (answer_interrupt i ≡ 1) ↔ (i ≡ Ok true)
+one_is_up (Ok true) = (λ e. refl, λ e. refl)
+one_is_up (Ok false) = (λ e. absurd (omega (arith, e)), λ e. absurd (omega (arith, ap answer_interrupt e)))
+one_is_up (Err r) = (λ e. absurd (omega (arith, e)), λ e. absurd (omega (arith, ap answer_interrupt e)))
 
 asked_heard : (x : Loading) (cs : List Made) (h h' : Held) (n : ℕ) → Hosted x cs h → Calls interrupt_asked h (hear n) h' → (n ≡ 1) ↔ Up (history_of event cs)
 unfolding hears plainly says

@@ -12,9 +12,8 @@ use Rattle.memory.specs.Bytes.{Mem}
 use Rattle.memory.specs.Bits.{as_bit}
 use Rattle.registers.specs.declared.Mirroring.{Mirroring}
 use Rattle.registers.specs.declared.Mirroring.TheVariants.{Horizontal, Vertical, SingleScreenA, SingleScreenB, FourScreen}
-use Rattle.state.specs.declared.gate.Gate.TheVariants.{Open}
 use Rattle.state.specs.declared.State.{State}
-use Rattle.state.specs.Gate.{gate_mem}
+use Rattle.state.specs.Gate.{Open, gate_mem}
 use Rattle.board.specs.declared.Outcome.{Outcome}
 use Rattle.board.specs.Outcomes.{After}
 use Rattle.board.specs.CpuSide.{cpu_read, cpu_peek, cpu_write}

@@ -15,8 +15,6 @@ use Rattle.answers.specs.Refused.{is_refused, if_refused}
 use Rattle.answers.proofs.Cases.{refused_or_not, accepted_goes_on}
 use Rattle.scanline.specs.Steps.{interrupt_up}
 use Rattle.trace.specs.declared.Call.{Call}
-use Rattle.trace.specs.declared.Found.{Found}
-use Rattle.trace.specs.declared.Found.TheVariants.{End, Record, Refused as Unreadable}
 use Rattle.trace.specs.Records.{kind_of, record_at}
 use Rattle.text.specs.Digits.{before, digits}
 use Rattle.text.specs.Lines.{accepted_line}
@@ -26,7 +24,7 @@ use Rattle.theorems_scanlines.specs.Told.{up}
 use Rattle.theorems_scanlines.specs.Calls.{history_of}
 use Rattle.theorems_scanlines.specs.Calls.Played.{at_load, taken}
 use Rattle.theorems_scanlines.proofs.Worked.{tests_are_sentences}
-use Rattle.player.specs.Replay.{found}
+use Rattle.player.proofs.Ways.{found_same}
 use Rattle.logs.specs.Logs.{log_letter}
 use Rattle.transcript.specs.Lines.{lines_from}
 use Rattle.transcript.proofs.Transcribed.{transcript_is_lines}
@@ -54,12 +52,7 @@ pub says_none : (b : Board) (c : Call) → number_in (answer_at b c) ≡ 0 → n
 unfolding says number
 says_none b c n = n
 
--- Lines that are the same but where a record is played, and there where it is accepted.
-found_same : (r : Found) (done : List ℕ) (stop : Refusal → List ℕ) (f g : Call → ℕ → List ℕ) → ((c : Call) (next : ℕ) → f c next ≡ g c next) → found r done stop f ≡ found r done stop g
-found_same End done stop f g h = refl
-found_same (Unreadable why) done stop f g h = refl
-found_same (Record c next) done stop f g h = h c next
-
+-- Lines that are the same where a call is accepted.
 answered_same : (a : Answer) (stop : Refusal → List ℕ) (x y : List ℕ) → (is_refused a ≡ false → x ≡ y) → if_refused a stop x ≡ if_refused a stop y
 answered_same a stop x y h = refused_or_not a (λ why e. rw e) (λ n. accepted_goes_on a stop x n ∙ h n ∙ sym (accepted_goes_on a stop y n))
 
@@ -67,7 +60,7 @@ heard_lines : (l : Load) (k : ℕ) (trace : List ℕ) (at : ℕ) (cs : List Call
 unfolding lines_from lines_after leaves
 heard_lines l zero trace at cs b r = refl
 heard_lines l (suc k) trace at cs b r =
-    found_same (record_at trace at) _ _ _ _ (λ c next. answered_same (answer_at b c) _ _ _ (λ n.
+    found_same (record_at trace at) _ _ _ _ (λ c next e. answered_same (answer_at b c) _ _ _ (λ n.
     let s = onward l (call c) r (says_none b c (given (answer_at b c) n)) in
     let b' = leaves b (call c) in
     let same = ap (λ (d : Bool). accepted_line (length cs) (kind_of c) (answer_at b c) d) (up_along l s) in

@@ -8,15 +8,14 @@ use borrow.Author.Tests.{eq-eqb, leb-true}
 use lib.Dec.{leb}
 use lib.ListN.{length, take, drop, length-drop}
 use lib.Seq.{length-take-le, take_all}
+use Rattle.std.specs.Prelude.{Ok, Err}
 use Rattle.memory.specs.declared.Src.{Src}
 use Rattle.memory.specs.declared.Src.TheVariants.{Blank, PrgRom, PrgRam, Chr, CiRam, ExRam}
 use Rattle.memory.specs.Bytes.{Mem}
 use Rattle.memory.specs.PageWords.{page_of}
 use Rattle.memory.proofs.Tests.{split}
-use Rattle.state.specs.declared.gate.Gate.{Gate}
-use Rattle.state.specs.declared.gate.Gate.TheVariants.{Open, Shut}
 use Rattle.state.specs.declared.State.{State}
-use Rattle.state.specs.Gate.{gate_mem}
+use Rattle.state.specs.Gate.{Gate, gate_mem}
 use Rattle.cpu.specs.Writes.{prg_word_at}
 use Rattle.board.specs.Outcomes.{behind}
 use Rattle.board_ppu.specs.Peeks.{chr_word_at}
@@ -55,8 +54,8 @@ ppu_shown m CiRam i = inr refl
 ppu_shown m ExRam i = inr refl
 
 behind_gate : (g : Gate) (l : List ℕ) → IsPage l → IsPage (behind g (λ r. []) l)
-behind_gate Open l p = p
-behind_gate (Shut r) l p = inr refl
+behind_gate (Ok u) l p = p
+behind_gate (Err r) l p = inr refl
 
 pub cpu_page_whole : (s : State) (m : Mem) (a : ℕ) → IsPage (cpu_view s m a)
 unfolding cpu_view

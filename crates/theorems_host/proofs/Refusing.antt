@@ -4,6 +4,7 @@ use mathlib.Core.Bool.{Bool, true, false, false≢true}
 use mathlib.Core.List.{List}
 use mathlib.Core.Path.{◌≡◌, refl, sym, ◌∙◌, ap, subst}
 use native.Mathlib.Omega.{arith}
+use Rattle.std.specs.Prelude.{Result, Ok, Err}
 use Rattle.memory.specs.Tests.{pick}
 use Rattle.answers.specs.declared.Answer.{Answer}
 use Rattle.answers.specs.declared.Answer.TheVariants.{Refused}
@@ -17,10 +18,6 @@ use Rattle.registers.specs.declared.Mirroring.{Mirroring}
 use Rattle.registers.specs.declared.Mirroring.TheVariants.{Horizontal, Vertical, SingleScreenA, SingleScreenB, FourScreen}
 use Rattle.scanline.specs.declared.Detector.{Detector}
 use Rattle.scanline.specs.Steps.{interrupt_up}
-use Rattle.board.specs.declared.InterruptAnswer.{InterruptAnswer}
-use Rattle.board.specs.declared.InterruptAnswer.TheVariants.{Up, Down, Refused as InterruptRefused}
-use Rattle.board.specs.declared.MirroringAnswer.{MirroringAnswer}
-use Rattle.board.specs.declared.MirroringAnswer.TheVariants.{Is, Refused as MirroringRefused}
 use Rattle.board.specs.CpuSide.{cpu_peek}
 use Rattle.board.specs.StateCalls.{mirroring_call, interrupt_call}
 use Rattle.board_ppu.specs.Peeks.{ppu_peek, sprite_peek}
@@ -89,16 +86,16 @@ answer_plain_lem a = answer_just answer_plain (λ r. refl) (λ x n. other_letter
 pub not_refused : (a : Answer) → number_in a ≡ 0 → is_refused a ≡ false
 not_refused a n = refused_or_not a (λ r q. no_zero r (ap number_in (sym q) ∙ n)) (λ f. f)
 
-mirroring_just : (t : MirroringAnswer) → Just (number (mirrors t)) (hear (answer_mirroring t))
+mirroring_just : (t : Result Mirroring Refusal) → Just (number (mirrors t)) (hear (answer_mirroring t))
 unfolding number
-mirroring_just (Is m) = taken_just _ (no_letter (number_of_mirroring m) (omega (arith, five m)))
-mirroring_just (MirroringRefused r) = refused_just r
+mirroring_just (Ok m) = taken_just _ (no_letter (number_of_mirroring m) (omega (arith, five m)))
+mirroring_just (Err r) = refused_just r
 
-interrupt_just : (i : InterruptAnswer) → Just (number (interrupts i)) (hear (answer_interrupt i))
+interrupt_just : (i : Result Bool Refusal) → Just (number (interrupts i)) (hear (answer_interrupt i))
 unfolding number
-interrupt_just Up = taken_just _ (no_letter 1 (omega arith))
-interrupt_just Down = taken_just _ (no_letter 0 (omega arith))
-interrupt_just (InterruptRefused r) = refused_just r
+interrupt_just (Ok true) = taken_just _ (no_letter 1 (omega arith))
+interrupt_just (Ok false) = taken_just _ (no_letter 0 (omega arith))
+interrupt_just (Err r) = refused_just r
 
 page_just : (l : List ℕ) → Just 0 (bytes l)
 unfolding is_number

@@ -7,12 +7,10 @@ use borrow.Author.Tests.{lt-ltb, ltb-true, ltb-false}
 use lib.Dec.{ltb}
 use lib.ListN.{length}
 use Rattle.memory.proofs.Tests.{split}
-use Rattle.state.specs.declared.gate.Gate.TheVariants.{Open}
-use Rattle.state.specs.Gate.{gate_mem}
+use Rattle.state.specs.Gate.{Open, gate_mem}
 use Rattle.trace.specs.declared.Call.{Call}
-use Rattle.player.specs.declared.Ending.{Ending}
-use Rattle.player.specs.declared.Ending.TheVariants.{Done, Stopped}
-use Rattle.player.specs.Replay.{Left}
+use Rattle.std.specs.Prelude.{Ok, Err}
+use Rattle.player.specs.Replay.{Ending, Left}
 use Rattle.host_replay.specs.Promise.{TakenApart}
 use Rattle.host_replay.specs.Replays.{LeftReplay, left_replay, ending_number, replay_on}
 use Rattle.host_replay.proofs.ReplayLaws.{promised}
@@ -29,10 +27,10 @@ use Rattle.theorems_host.proofs.Stands.{Sound, replay_on_lem}
 
 -- The number tells the place where the replay ended.
 place_heard : (trace : List ℕ) (e : Ending) → TakenApart e → place_of_number trace (ending_number e) ≡ end_of trace e
-place_heard trace (Done count) a = rw (lt-ltb (ending_number (Done count)) 65536 (omega (arith, a.0)))
-place_heard trace (Stopped place why) a =
-    split (ltb (ending_number (Stopped place why)) 65536)
-    (λ t. no_zero why (omega (arith, ltb-true (ending_number (Stopped place why)) 65536 t)))
+place_heard trace (Ok count) a = rw (lt-ltb count 65536 (omega (arith, a.0)))
+place_heard trace (Err stopped) a =
+    split (ltb (ending_number (Err stopped)) 65536)
+    (λ t. no_zero stopped.refusal (omega (arith, ltb-true (ending_number (Err stopped)) 65536 t)))
     (λ f. rw f a.1)
 
 pub calls_heard : (b : Board) (trace log : List ℕ) → calls_of_number trace (ending_number (replay_of b trace log).out.ending) ≡ played_calls trace (replay_of b trace log).out.ending

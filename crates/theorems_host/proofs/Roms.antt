@@ -2,15 +2,14 @@
 use Prim.Native.Nat.{ℕ}
 use mathlib.Core.List.{List}
 use mathlib.Core.Path.{◌≡◌, refl, sym, ap}
+use Rattle.std.specs.Prelude.{Ok, Err}
 use Rattle.memory.specs.declared.Page.{Page}
 use Rattle.memory.specs.declared.Src.{Src}
 use Rattle.memory.specs.declared.Src.TheVariants.{Blank, PrgRom, PrgRam, Chr, CiRam, ExRam}
 use Rattle.memory.specs.Bytes.{Mem, mem_of, stored_at, page_stored}
 use Rattle.memory.proofs.Tests.{pick_keeps}
-use Rattle.state.specs.declared.gate.Gate.{Gate}
-use Rattle.state.specs.declared.gate.Gate.TheVariants.{Open, Shut}
 use Rattle.state.specs.declared.State.{State}
-use Rattle.state.specs.Gate.{gate_mem}
+use Rattle.state.specs.Gate.{Gate, gate_mem}
 use Rattle.answers.specs.declared.Refusal.{Refusal}
 use Rattle.cpu.specs.Writes.{cpu_stored, audio_write}
 use Rattle.board.specs.CpuSide.{cpu_write}
@@ -35,8 +34,8 @@ unfolding page_stored
 page_rom m p a v = pick_keeps (λ (x : Mem). x.prg ≡ m.prg) p.writable (stored_rom m p.src _ v) refl
 
 behind_rom : (g : Gate) (s : State) (m : Mem) (x : After) → x.mem.prg ≡ m.prg → (behind g (λ (r : Refusal). after_of (refused s r) m) x).mem.prg ≡ m.prg
-behind_rom Open s m x e = e
-behind_rom (Shut r) s m x e = refl
+behind_rom (Ok u) s m x e = e
+behind_rom (Err r) s m x e = refl
 
 rom_kept : (m m' : Mem) → m'.prg ≡ m.prg → lent_rom m m' ≡ m'
 rom_kept m m' e = ap (λ (p : List ℕ). mem_of p m'.chr m'.ram m'.ciram m'.exram) (sym e)

@@ -6,9 +6,8 @@ use mathlib.Core.Path.{◌≡◌, refl, ◌∙◌, ap, subst}
 use lib.ListN.{get_or, length, take}
 use Rattle.memory.specs.Bytes.{Mem}
 use Rattle.answers.specs.Refused.{is_refused}
-use Rattle.state.specs.declared.gate.Gate.TheVariants.{Open}
 use Rattle.state.specs.declared.State.{State}
-use Rattle.state.specs.Gate.{gate_mem}
+use Rattle.state.specs.Gate.{Open, gate_mem}
 use Rattle.board.specs.declared.Outcome.{Outcome}
 use Rattle.board.specs.CpuSide.{cpu_read, cpu_peek, cpu_write}
 use Rattle.board.specs.Outcomes.{After, after_of}

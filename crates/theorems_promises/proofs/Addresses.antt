@@ -12,9 +12,8 @@ use Rattle.registers.specs.declared.Mirroring.{Mirroring}
 use Rattle.scanline.specs.Fetches.{counted_at}
 use Rattle.scanline.specs.Ranges.{counter_refused}
 use Rattle.split.proofs.ControlLaws.{address_in_range}
-use Rattle.state.specs.declared.gate.Gate.TheVariants.{Open}
 use Rattle.state.specs.declared.State.{State}
-use Rattle.state.specs.Gate.{gate_mem}
+use Rattle.state.specs.Gate.{Open, gate_mem}
 use Rattle.state.specs.Lengths.{prg_taken, chr_taken, ram_taken}
 use Rattle.state.specs.Ranges.{in_range}
 use Rattle.state.proofs.RangeLaws.{ranged}

@@ -20,9 +20,8 @@ use Rattle.scanline.proofs.RangeLaws.{ranges_kept}
 use Rattle.split.specs.declared.VSplit.{VSplit}
 use Rattle.split.specs.Control.{split_active, split_ranges}
 use Rattle.split.proofs.RegionLaws.{scroll_small, name_keeps_ranges}
-use Rattle.state.specs.declared.gate.Gate.TheVariants.{Open}
 use Rattle.state.specs.declared.State.{State}
-use Rattle.state.specs.Gate.{gate_mem}
+use Rattle.state.specs.Gate.{Open, gate_mem}
 use Rattle.state.specs.Ranges.{in_range}
 use Rattle.state.proofs.RangeLaws.{ranged, in_range_lem}
 use Rattle.cpu.specs.Chosen.{chosen, set_changed}

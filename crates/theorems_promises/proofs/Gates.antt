@@ -17,9 +17,8 @@ use Rattle.memory.proofs.Tests.{split, pick_keeps}
 use Rattle.answers.specs.declared.Answer.TheVariants.{Nothing, Refused}
 use Rattle.answers.specs.declared.Refusal.{Refusal}
 use Rattle.registers.specs.declared.Mirroring.{Mirroring}
-use Rattle.state.specs.declared.gate.Gate.TheVariants.{Open}
 use Rattle.state.specs.declared.State.{State}
-use Rattle.state.specs.Gate.{same_lengths, gate_mem}
+use Rattle.state.specs.Gate.{Open, same_lengths, gate_mem}
 use Rattle.state.specs.Lengths.{prg_taken, chr_taken, ram_taken}
 use Rattle.state.specs.Ranges.{in_range}
 use Rattle.state.proofs.GateLaws.{open_in_range, open_same_lengths, passes}

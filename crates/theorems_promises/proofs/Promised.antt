@@ -20,10 +20,9 @@ use Rattle.scanline.specs.Fetches.{counted_at, attribute_at}
 use Rattle.scanline.specs.Ranges.{counter_refused}
 use Rattle.scanline.specs.Tiles.{sprite_fetch}
 use Rattle.split.specs.declared.VSplit.{VSplit}
-use Rattle.state.specs.declared.gate.Gate.TheVariants.{Open}
 use Rattle.state.specs.declared.PpuStatus.{PpuStatus}
 use Rattle.state.specs.declared.State.{State}
-use Rattle.state.specs.Gate.{gate_mem}
+use Rattle.state.specs.Gate.{Open, gate_mem}
 use Rattle.cpu.specs.Reads.{page_answer, cpu_answer, audio_read}
 use Rattle.ppu.specs.Served.{split_serves, counted_served, pattern_served}
 use Rattle.ppu.proofs.ServedLaws.{counted_is, pattern_is}

@@ -2,6 +2,7 @@
 use Prim.Native.Nat.{ℕ}
 use mathlib.Core.Bool.{Bool, true, false}
 use mathlib.Core.Path.{◌≡◌, refl}
+use Rattle.std.specs.Prelude.{Ok, Err}
 use Rattle.memory.specs.declared.Src.{Src}
 use Rattle.memory.specs.declared.Src.TheVariants.{Blank, PrgRom, PrgRam, Chr, CiRam, ExRam}
 use Rattle.memory.specs.Bytes.{Mem, page_byte}
@@ -11,8 +12,7 @@ use Rattle.answers.specs.declared.Answer.{Answer}
 use Rattle.answers.specs.declared.Answer.TheVariants.{Refused}
 use Rattle.answers.specs.declared.Refusal.TheVariants.{Audio}
 use Rattle.answers.specs.Refused.{is_refused}
-use Rattle.state.specs.declared.gate.Gate.{Gate}
-use Rattle.state.specs.declared.gate.Gate.TheVariants.{Open, Shut}
+use Rattle.state.specs.Gate.{Gate}
 use Rattle.state.specs.declared.State.{State}
 use Rattle.cpu.specs.Reads.{answered_as, page_answer, register_at, register_read, cpu_answer}
 use Rattle.cpu.specs.Writes.{prg_word_at}
@@ -40,6 +40,6 @@ answer_is_given s m a =
 -- A peek answers as the read does, at an open gate and at a shut one.
 pub same_behind : (g : Gate) (s : State) (b : Bool) (x : Answer) (t : State)
     → behind g Refused (pick b (Refused Audio) x) ≡ (behind g (refused s) (pick b (refused s Audio) (outcome x t))).answer
-same_behind Open s true x t = refl
-same_behind Open s false x t = refl
-same_behind (Shut r) s b x t = refl
+same_behind (Ok u) s true x t = refl
+same_behind (Ok u) s false x t = refl
+same_behind (Err r) s b x t = refl

@@ -6,9 +6,8 @@ use Rattle.memory.specs.Bytes.{Mem}
 use Rattle.memory.specs.Tests.{pick}
 use Rattle.registers.specs.declared.Mirroring.{Mirroring}
 use Rattle.scanline.specs.Fetches.{counted_at}
-use Rattle.state.specs.declared.gate.Gate.TheVariants.{Open}
 use Rattle.state.specs.declared.State.{State}
-use Rattle.state.specs.Gate.{gate_mem}
+use Rattle.state.specs.Gate.{Open, gate_mem}
 use Rattle.state.specs.Ranges.{in_range}
 use Rattle.ppu.specs.Served.{split_serves}
 use Rattle.board.specs.declared.Outcome.{Outcome}

@@ -5,9 +5,8 @@ use Rattle.std.specs.Prelude.{ℕ, Bool, true, ◌≡◌}
 use Rattle.memory.specs.Bytes.{Mem}
 use Rattle.answers.specs.declared.Answer.TheVariants.{Nothing}
 use Rattle.registers.specs.declared.Mirroring.{Mirroring}
-use Rattle.state.specs.declared.gate.Gate.TheVariants.{Open}
 use Rattle.state.specs.declared.State.{State}
-use Rattle.state.specs.Gate.{gate_mem}
+use Rattle.state.specs.Gate.{Open, gate_mem}
 use Rattle.state.specs.Ranges.{in_range}
 use Rattle.board_ppu.specs.Fetch.{ppu_fetch}
 use Rattle.board_ppu.specs.Peeks.{ppu_write}

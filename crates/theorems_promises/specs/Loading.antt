@@ -7,8 +7,7 @@ use Rattle.answers.specs.declared.Answer.TheVariants.{Nothing}
 use Rattle.answers.specs.declared.Refusal.TheVariants.{State as StateBroken}
 use Rattle.answers.specs.Letters.{letter_of, value_of}
 use Rattle.registers.specs.declared.Mirroring.{Mirroring}
-use Rattle.state.specs.declared.gate.Gate.TheVariants.{Shut}
-use Rattle.state.specs.Gate.{gate_mem}
+use Rattle.state.specs.Gate.{Shut, gate_mem}
 use Rattle.state.specs.Lengths.{prg_taken, chr_taken, ram_taken}
 use Rattle.state.specs.Ranges.{in_range}
 use Rattle.board.specs.declared.Outcome.{Outcome}

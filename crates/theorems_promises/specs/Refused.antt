@@ -2,9 +2,8 @@
 -- Behind an open gate the CPU's calls are refused for audio registers and for nothing else, fetches for refusal 7 alone, the other calls never;
 -- so a board that refuses every call is shut out. At a shut gate every call gives the gate's refusal. The gate, `gate_mem`, is
 -- refusals 4 and 5 (crate `state`, specs/Gate.antt). One equation over all calls and boards: `Refusals` of crate `theorems_histories`.
-use Rattle.std.specs.Prelude.{ℕ, true, false, ◌≡◌}
+use Rattle.std.specs.Prelude.{ℕ, true, false, ◌≡◌, Ok, Err}
 use Rattle.memory.specs.Bytes.{Mem}
-use Rattle.memory.specs.Tests.{pick}
 use Rattle.answers.specs.declared.Answer.TheVariants.{Nothing, Refused}
 use Rattle.answers.specs.declared.Refusal.{Refusal}
 use Rattle.answers.specs.declared.Refusal.TheVariants.{State as StateBroken}
@@ -13,15 +12,12 @@ use Rattle.answers.specs.Numbers.{number_of}
 use Rattle.answers.specs.Refused.{is_refused}
 use Rattle.scanline.specs.Ranges.{counter_refused}
 use Rattle.scanline.specs.Steps.{interrupt_up}
-use Rattle.state.specs.declared.gate.Gate.TheVariants.{Open, Shut}
 use Rattle.state.specs.declared.State.{State}
-use Rattle.state.specs.Gate.{gate_mem}
+use Rattle.state.specs.Gate.{Open, Shut, gate_mem}
 use Rattle.state.specs.Ranges.{in_range}
 use Rattle.cpu.specs.Reads.{audio_read}
 use Rattle.cpu.specs.Writes.{audio_write}
-use Rattle.board.specs.declared.InterruptAnswer.TheVariants.{Up, Down, Refused as InterruptRefused}
 use Rattle.board.specs.declared.Outcome.{Outcome}
-use Rattle.board.specs.declared.MirroringAnswer.TheVariants.{Is, Refused as MirroringRefused}
 use Rattle.board.specs.CpuSide.{cpu_read, cpu_peek, cpu_write}
 use Rattle.board.specs.Outcomes.{refused, after_of}
 use Rattle.board.specs.StateCalls.{reset_call, clock_call, ppu_register_call, mirroring_call, interrupt_call}
@@ -52,8 +48,8 @@ pub record WhoIsRefused : Type 0 where
   pub reset : (s : State) → in_range s ≡ true → (reset_call s).answer ≡ Nothing
   pub clock : (s : State) → in_range s ≡ true → (clock_call s).answer ≡ Nothing
   pub register : (s : State) (a v : ℕ) → in_range s ≡ true → (ppu_register_call s a v).answer ≡ Nothing
-  pub mirroring : (s : State) → in_range s ≡ true → mirroring_call s ≡ Is s.screen.mirroring
-  pub interrupt : (s : State) → in_range s ≡ true → interrupt_call s ≡ pick (interrupt_up s.irq) Up Down
+  pub mirroring : (s : State) → in_range s ≡ true → mirroring_call s ≡ Ok s.screen.mirroring
+  pub interrupt : (s : State) → in_range s ≡ true → interrupt_call s ≡ Ok (interrupt_up s.irq)
   -- at a shut gate: the gate's refusal, the state given back, no byte written
   pub read_shut : (s : State) (m : Mem) (a : ℕ) (r : Refusal) → gate_mem s m ≡ Shut r → cpu_read s m a ≡ refused s r
   pub write_shut : (s : State) (m : Mem) (a v : ℕ) (r : Refusal) → gate_mem s m ≡ Shut r → cpu_write s m a v ≡ after_of (refused s r) m
@@ -65,6 +61,6 @@ pub record WhoIsRefused : Type 0 where
   pub clock_broken : (s : State) → in_range s ≡ false → RefusedWith 5 s (clock_call s)
   pub register_broken : (s : State) (a v : ℕ) → in_range s ≡ false → RefusedWith 5 s (ppu_register_call s a v)
   -- these two have no outcome; `StateBroken` is the refusal with the number 5
-  pub mirroring_broken : (s : State) → in_range s ≡ false → mirroring_call s ≡ MirroringRefused StateBroken
-  pub interrupt_broken : (s : State) → in_range s ≡ false → interrupt_call s ≡ InterruptRefused StateBroken
+  pub mirroring_broken : (s : State) → in_range s ≡ false → mirroring_call s ≡ Err StateBroken
+  pub interrupt_broken : (s : State) → in_range s ≡ false → interrupt_call s ≡ Err StateBroken
   pub broken_is_five : number_of StateBroken ≡ 5

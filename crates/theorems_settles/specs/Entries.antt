@@ -44,15 +44,15 @@ pub record Calls : Type 0 where
   pub call_on : Settles calls_call_on.Learnt (λ κ a r e. after_of r (mem_left a.1.0.now e.1.1))
 
 pub record Text : Type 0 where
-  pub logged_line : Settles text_logged_line.Learnt (λ κ a r e. sheet e.0.now r)
-  pub refused_line : Settles text_refused_line.Learnt (λ κ a r e. sheet e.0.now r)
-  pub unreadable_line : Settles text_unreadable_line.Learnt (λ κ a r e. sheet e.0.now r)
-  pub too_long_line : Settles text_too_long_line.Learnt (λ κ a r e. sheet e.0.now r)
-  pub end_line : Settles text_end_line.Learnt (λ κ a r e. sheet e.0.now r)
-  pub put : Settles text_put.Learnt (λ κ a r e. sheet e.0.now r)
-  pub decimal : Settles text_decimal.Learnt (λ κ a r e. sheet e.0.now r)
-  pub number : Settles text_number.Learnt (λ κ a r e. sheet e.0.now r)
-  pub letter : Settles text_letter.Learnt (λ κ a r e. sheet e.0.now r)
+  pub logged_line : Settles text_logged_line.Learnt (λ κ a r e. e.0.now)
+  pub refused_line : Settles text_refused_line.Learnt (λ κ a r e. e.0.now)
+  pub unreadable_line : Settles text_unreadable_line.Learnt (λ κ a r e. e.0.now)
+  pub too_long_line : Settles text_too_long_line.Learnt (λ κ a r e. e.0.now)
+  pub end_line : Settles text_end_line.Learnt (λ κ a r e. e.0.now)
+  pub put : Settles text_put.Learnt (λ κ a r e. e.0.now)
+  pub decimal : Settles text_decimal.Learnt (λ κ a r e. e.0.now)
+  pub number : Settles text_number.Learnt (λ κ a r e. e.0.now)
+  pub letter : Settles text_letter.Learnt (λ κ a r e. e.0.now)
 
 pub record Logs : Type 0 where
   pub log_record : Settles logs_log_record.Learnt (λ κ a r e. e.0.now)

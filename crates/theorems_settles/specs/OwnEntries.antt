@@ -85,31 +85,31 @@ trace_first_record = own (λ w κ a g. nothing) (λ w κ a g r e. fact_of)
 abbrev pub calls_call_on : Own calls.call_on.ended (λ w. calls.call_on.clauses w.𝓛 w.𝓜.mem w.𝓡.returns)
 calls_call_on = own (λ w κ a g. nothing) (λ w κ a g r e. fact_of)
 
-abbrev pub text_logged_line : Own text.lines.logged_line.ended (λ w. text.lines.logged_line.clauses w.𝓛 w.𝓜.mem w.𝓡.returns)
+abbrev pub text_logged_line : Own text.pen.Pen.logged_line.ended (λ w. text.pen.Pen.logged_line.clauses w.𝓛 w.𝓜.mem w.𝓡.returns)
 text_logged_line = own (λ w κ a g. nothing) (λ w κ a g r e. fact_of)
 
-abbrev pub text_refused_line : Own text.lines.refused_line.ended (λ w. text.lines.refused_line.clauses w.𝓛 w.𝓜.mem w.𝓡.returns)
+abbrev pub text_refused_line : Own text.pen.Pen.refused_line.ended (λ w. text.pen.Pen.refused_line.clauses w.𝓛 w.𝓜.mem w.𝓡.returns)
 text_refused_line = own (λ w κ a g. nothing) (λ w κ a g r e. fact_of)
 
-abbrev pub text_unreadable_line : Own text.lines.unreadable_line.ended (λ w. text.lines.unreadable_line.clauses w.𝓛 w.𝓜.mem w.𝓡.returns)
+abbrev pub text_unreadable_line : Own text.pen.Pen.unreadable_line.ended (λ w. text.pen.Pen.unreadable_line.clauses w.𝓛 w.𝓜.mem w.𝓡.returns)
 text_unreadable_line = own (λ w κ a g. nothing) (λ w κ a g r e. fact_of)
 
-abbrev pub text_too_long_line : Own text.lines.too_long_line.ended (λ w. text.lines.too_long_line.clauses w.𝓛 w.𝓜.mem w.𝓡.returns)
+abbrev pub text_too_long_line : Own text.pen.Pen.too_long_line.ended (λ w. text.pen.Pen.too_long_line.clauses w.𝓛 w.𝓜.mem w.𝓡.returns)
 text_too_long_line = own (λ w κ a g. nothing) (λ w κ a g r e. fact_of)
 
-abbrev pub text_end_line : Own text.lines.end_line.ended (λ w. text.lines.end_line.clauses w.𝓛 w.𝓜.mem w.𝓡.returns)
+abbrev pub text_end_line : Own text.pen.Pen.end_line.ended (λ w. text.pen.Pen.end_line.clauses w.𝓛 w.𝓜.mem w.𝓡.returns)
 text_end_line = own (λ w κ a g. nothing) (λ w κ a g r e. fact_of)
 
-abbrev pub text_put : Own text.pieces.put.ended (λ w. text.pieces.put.clauses w.𝓛 w.𝓜.mem w.𝓡.returns)
+abbrev pub text_put : Own text.pen.Pen.put.ended (λ w. text.pen.Pen.put.clauses w.𝓛 w.𝓜.mem w.𝓡.returns)
 text_put = own (λ w κ a g. nothing) (λ w κ a g r e. fact_of)
 
-abbrev pub text_decimal : Own text.pieces.decimal.ended (λ w. text.pieces.decimal.clauses w.𝓛 w.𝓜.mem w.𝓡.returns)
+abbrev pub text_decimal : Own text.pen.Pen.decimal.ended (λ w. text.pen.Pen.decimal.clauses w.𝓛 w.𝓜.mem w.𝓡.returns)
 text_decimal = own (λ w κ a g. nothing) (λ w κ a g r e. fact_of)
 
-abbrev pub text_number : Own text.pieces.number.ended (λ w. text.pieces.number.clauses w.𝓛 w.𝓜.mem w.𝓡.returns)
+abbrev pub text_number : Own text.pen.Pen.number.ended (λ w. text.pen.Pen.number.clauses w.𝓛 w.𝓜.mem w.𝓡.returns)
 text_number = own (λ w κ a g. nothing) (λ w κ a g r e. fact_of)
 
-abbrev pub text_letter : Own text.pieces.letter.ended (λ w. text.pieces.letter.clauses w.𝓛 w.𝓜.mem w.𝓡.returns)
+abbrev pub text_letter : Own text.pen.Pen.letter.ended (λ w. text.pen.Pen.letter.clauses w.𝓛 w.𝓜.mem w.𝓡.returns)
 text_letter = own (λ w κ a g. nothing) (λ w κ a g r e. fact_of)
 
 abbrev pub logs_log_record : Own logs.log_record.ended (λ w. logs.log_record.clauses w.𝓛 w.𝓜.mem w.𝓡.returns)

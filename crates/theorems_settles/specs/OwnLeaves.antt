@@ -14,7 +14,7 @@ memory_byte = own (λ w κ a g. nothing) (λ w κ a g r e. fact_of)
 abbrev pub memory_put : Own memory.bytes.put.ended (λ w. memory.bytes.put.clauses w.𝓛 w.𝓜.mem w.𝓡.returns)
 memory_put = own (λ w κ a g. nothing) (λ w κ a g r e. fact_of)
 
-abbrev pub memory_peek : Own memory.bytes.peek.ended (λ w. memory.bytes.peek.clauses w.𝓛 w.𝓜.mem w.𝓡.returns)
+abbrev pub memory_peek : Own memory.Lent.peek.ended (λ w. memory.Lent.peek.clauses w.𝓛 w.𝓜.mem w.𝓡.returns)
 memory_peek = own (λ w κ a g. nothing) (λ w κ a g r e. fact_of)
 
 abbrev pub memory_store : Own memory.bytes.store.ended (λ w. memory.bytes.store.clauses w.𝓛 w.𝓜.mem w.𝓡.returns)

@@ -14,12 +14,10 @@ use Rattle.memory.proofs.Tests.{split}
 use Rattle.answers.specs.declared.Refusal.{Refusal}
 use Rattle.answers.specs.declared.Refusal.TheVariants.{Kind, Number}
 use Rattle.trace.specs.declared.Call.{Call}
-use Rattle.trace.specs.declared.Found.{Found}
-use Rattle.trace.specs.declared.Found.TheVariants.{End, Record, Refused}
-use Rattle.trace.specs.declared.Numeral.{Numeral}
-use Rattle.trace.specs.declared.Numeral.TheVariants.{Sound, Cut, Padded, Above}
-use Rattle.trace.specs.Numbers.{numeral, limited, number_at, address_at, value_at}
-use Rattle.trace.specs.Records.{HasAddress, HasValue, Form, whole, address, value, unknown, forms, form_of, kind_of, numbered, filled, record_at, taking}
+use Rattle.std.specs.Prelude.{Result, Ok, Err, Some, None, IsErrAnd}
+use Rattle.std.proofs.lemmas.Result.{err_from_is_err_and}
+use Rattle.trace.specs.Numbers.{Numeral, numeral, limited, number_at, address_at, value_at}
+use Rattle.trace.specs.Records.{Found, End, Record, Refused, Form, whole, address, value, unknown, forms, form_of, kind_of, numbered, filled, record_at}
 use Rattle.trace.specs.Promise.{InRange, SoundRecord}
 use Rattle.trace.proofs.NumberLaws.{clash, within_limit, number_advances}
 
@@ -34,34 +32,9 @@ by_kind P a b c d e f g (suc (suc (suc (suc (suc zero))))) h = f
 by_kind P a b c d e f g (suc (suc (suc (suc (suc (suc zero)))))) h = g
 by_kind P a b c d e f g (suc (suc (suc (suc (suc (suc (suc k))))))) h = absurd (omega arith)
 
--- The kinds that have an address, and those that have a value after it.
-pub has_address : (k : ℕ) → HasAddress k → form_of k ≡ address (taking (form_of k))
-unfolding taking
-has_address k h =
-    by_kind (λ (k : ℕ). HasAddress k → form_of k ≡ address (taking (form_of k)))
-    (λ h. absurd (omega arith)) (λ h. refl) (λ h. refl) (λ h. refl) (λ h. refl) (λ h. absurd (h.no_reset refl)) (λ h. refl) k h.known h
-
-pub has_value : (k a : ℕ) → HasValue k → taking (form_of k) a ≡ value (taking (taking (form_of k) a))
-unfolding taking
-has_value k a h =
-    by_kind (λ (k : ℕ). HasValue k → taking (form_of k) a ≡ value (taking (taking (form_of k) a)))
-    (λ h. absurd (omega arith)) (λ h. absurd (omega arith)) (λ h. refl) (λ h. refl) (λ h. absurd (h.no_fetch refl)) (λ h. absurd (h.no_reset refl)) (λ h. refl) k h.known h
-
-pub address_too : (k : ℕ) → HasValue k → HasAddress k
-address_too k h = record { no_clock = omega (arith, h.no_read); known = h.known; no_reset = h.no_reset }
-
+-- A byte that is no kind has no form.
 pub has_none : (k : ℕ) → 6 < k → form_of k ≡ unknown
 has_none k h = get_or-eq_default forms unknown {n = k} (omega arith)
-
--- A record with an address, by what stands where the address begins; the rest of one with a value, by what stands where the value begins.
-pub filled_address : (t : List ℕ) (at k : ℕ) → HasAddress k → filled t at (form_of k) ≡ numbered (address_at t at) (λ (a next : ℕ). filled t next (taking (form_of k) a))
-unfolding filled
-filled_address t at k h = ap (filled t at) (has_address k h)
-
-pub filled_value : (t : List ℕ) (at k a : ℕ) → HasValue k
-    → filled t at (taking (form_of k) a) ≡ numbered (value_at t at) (λ (v next : ℕ). filled t next (taking (taking (form_of k) a) v))
-unfolding filled
-filled_value t at k a h = ap (filled t at) (has_value k a h)
 
 -- What stands at a place.
 pub none_left : (t : List ℕ) (at : ℕ) → length t ≤ at → record_at t at ≡ End
@@ -72,18 +45,59 @@ pub kind_left : (t : List ℕ) (at : ℕ) → at < length t → record_at t at �
 unfolding record_at
 kind_left t at h = rw (lt-ltb at (length t) h)
 
+-- The kind that stands at a place, as `get` finds it.
+pub kind_stands : (t : List ℕ) (at kind : ℕ) → (at < length t) × ((d : ℕ) → kind ≡ get_or t at d) → record_at t at ≡ filled t (at + 1) (form_of kind)
+kind_stands t at kind h = kind_left t at h.0 ∙ ap (λ (k : ℕ). filled t (at + 1) (form_of k)) (sym (h.1 0))
+
+-- What is read on after something that was read.
+abbrev pub after : {A B : Type 0} → Result A Refusal → (A → Result B Refusal) → Result B Refusal
+after (Ok read) f = f read
+after (Err why) f = Err why
+
+pub read_on : {A : Type 0} (m : Numeral) (f : ℕ → ℕ → Result A Refusal) {r : Result (ℕ × ℕ) Refusal} → numbered m (λ (n next : ℕ). Ok (n, next)) ≡ r
+    → numbered m f ≡ after r (λ (p : ℕ × ℕ). f p.0 p.1)
+unfolding numbered
+read_on (Ok n) f e = ap (λ (r : Result (ℕ × ℕ) Refusal). after r (λ (p : ℕ × ℕ). f p.0 p.1)) e
+read_on (Err bad) f e = ap (λ (r : Result (ℕ × ℕ) Refusal). after r (λ (p : ℕ × ℕ). f p.0 p.1)) e
+
+numbered_after : {A B : Type 0} (m : Numeral) (f : ℕ → ℕ → Result A Refusal) (g : A → Result B Refusal) → after (numbered m f) g ≡ numbered m (λ (n next : ℕ). after (f n next) g)
+unfolding numbered
+numbered_after (Ok n) f g = refl
+numbered_after (Err bad) f g = refl
+
+-- What a `?` hands on.
+pub handed_on : (r : Found) {why : Refusal} → IsErrAnd r (λ (y : Refusal). y ≡ why) → r ≡ Err why
+handed_on r h = let p = err_from_is_err_and r h in rw p.1 (ap (λ (y : Refusal). Err y) p.2)
+
+-- A record with an address, and one with a value too, by what was read of it.
+module _ (t : List ℕ) (at kind k : ℕ) (stands : (at < length t) × ((d : ℕ) → kind ≡ get_or t at d)) (is : kind ≡ k) where
+  pub with_address : (make : ℕ → Call) → form_of k ≡ address (λ (a : ℕ). whole (make a))
+      → {r : Result (ℕ × ℕ) Refusal} → numbered (address_at t (at + 1)) (λ (a next : ℕ). Ok (a, next)) ≡ r
+      → after r (λ (p : ℕ × ℕ). Record (make p.0) p.1) ≡ record_at t at
+  unfolding filled
+  with_address make form e = rw (kind_stands t at kind stands, is, form) (sym (read_on (address_at t (at + 1)) (λ (a next : ℕ). Record (make a) next) e))
+
+  pub with_both : (make : ℕ → ℕ → Call) → form_of k ≡ address (λ (a : ℕ). value (λ (v : ℕ). whole (make a v)))
+      → {r : Result (ℕ × ℕ × ℕ) Refusal} → numbered (address_at t (at + 1)) (λ (a behind : ℕ). numbered (value_at t behind) (λ (v next : ℕ). Ok (a, v, next))) ≡ r
+      → after r (λ (p : ℕ × ℕ × ℕ). Record (make p.0 p.1) p.2) ≡ record_at t at
+  unfolding filled
+  with_both make form e = rw (kind_stands t at kind stands, is, form, ← e) (simp numbered_after)
+
+-- One record is one call and one place after it.
+pub one_record : {call other : Call} {next at : ℕ} → Record call next ≡ Record other at → (call ≡ other) × (next ≡ at)
+one_record {call} {other} {next} {at} e =
+    let p : ◌≡◌ {A = Call × ℕ} (call, next) (other, at) = cc in (ap (λ (q : Call × ℕ). q.0) p, ap (λ (q : Call × ℕ). q.1) p)
+
 -- Reading ends at the end only.
 abbrev is_end : Found → Bool
-is_end End = true
-is_end (Record call next) = false
-is_end (Refused why) = false
+is_end (Ok None) = true
+is_end (Ok (Some found)) = false
+is_end (Err why) = false
 
 number_goes_on : (n : Numeral) (f : ℕ → ℕ → Found) → ((v next : ℕ) → is_end (f v next) ≡ false) → is_end (numbered n f) ≡ false
 unfolding numbered
-number_goes_on (Sound v next) f h = h v next
-number_goes_on Cut f h = refl
-number_goes_on Padded f h = refl
-number_goes_on Above f h = refl
+number_goes_on (Ok (v, next)) f h = h v next
+number_goes_on (Err bad) f h = refl
 
 form_goes_on : (f : Form) (t : List ℕ) (at : ℕ) → is_end (filled t at f) ≡ false
 unfolding filled
@@ -102,15 +116,13 @@ none_read t at e =
 pub record Number-read (m : Numeral) (f : ℕ → ℕ → Found) (call : Call) (end : ℕ) : Type 0 where
   pub n : ℕ
   pub next : ℕ
-  pub sound : m ≡ Sound n next
+  pub sound : m ≡ Ok (n, next)
   pub rest : f n next ≡ Record call end
 
 pub numbered_record : (m : Numeral) (f : ℕ → ℕ → Found) (call : Call) (end : ℕ) → numbered m f ≡ Record call end → Number-read m f call end
 unfolding numbered
-numbered_record (Sound n next) f call end e = record { n = n; next = next; sound = refl; rest = e }
-numbered_record Cut f call end e = clash (cc)
-numbered_record Padded f call end e = clash (cc)
-numbered_record Above f call end e = clash (cc)
+numbered_record (Ok (n, next)) f call end e = record { n = n; next = next; sound = refl; rest = e }
+numbered_record (Err bad) f call end e = clash (cc)
 
 -- A form that refuses no kind and gives only calls of which P holds, where its numbers are within their limits.
 Gives : (Call → Type 0) → Form → Type 0
@@ -137,18 +149,16 @@ module _ (P : Call → Type 0) (t : List ℕ) (call : Call) (end : ℕ) where
 
   filled_sound : (at : ℕ) (form : Form) → at ≤ length t → Gives P form → filled t at form ≡ Record call end → Filled at
   unfolding filled Gives Filled
-  filled_sound at (whole made) h g e = let i : at ≡ end = cc in let j : made ≡ call = cc in (omega arith, omega arith, rw j at g)
+  filled_sound at (whole made) h g e = let i = one_record e in (omega arith, omega arith, rw i.0 at g)
   filled_sound at (address rest) h g e = filled_on 3 65535 at rest e (λ n next l k. filled_sound next (rest n) k (g n l))
   filled_sound at (value rest) h g e = filled_on 2 255 at rest e (λ n next l k. filled_sound next (rest n) k (g n l))
   filled_sound at unknown h g e = absurd g
 
 -- Such a form refused: a number is to blame.
-numbered_refused : (m : Numeral) (f : ℕ → ℕ → Found) (why : Refusal) → ((n next : ℕ) → m ≡ Sound n next → f n next ≡ Refused why → why ≡ Number) → numbered m f ≡ Refused why → why ≡ Number
+numbered_refused : (m : Numeral) (f : ℕ → ℕ → Found) (why : Refusal) → ((n next : ℕ) → m ≡ Ok (n, next) → f n next ≡ Refused why → why ≡ Number) → numbered m f ≡ Refused why → why ≡ Number
 unfolding numbered
-numbered_refused (Sound n next) f why g e = g n next refl e
-numbered_refused Cut f why g e = cc
-numbered_refused Padded f why g e = cc
-numbered_refused Above f why g e = cc
+numbered_refused (Ok (n, next)) f why g e = g n next refl e
+numbered_refused (Err bad) f why g e = cc
 
 filled_refused : (P : Call → Type 0) (t : List ℕ) (at : ℕ) (form : Form) (why : Refusal) → Gives P form → filled t at form ≡ Refused why → why ≡ Number
 unfolding filled Gives
@@ -213,12 +223,10 @@ record_refused t at why e =
     (λ b. let s : End ≡ Refused why = rw (none_left t at (ltb-false at (length t) b)) at e in clash (cc))
 
 -- What is read at a place depends on the bytes from there on.
-numbered_same : (m : Numeral) (f g : ℕ → ℕ → Found) → ((n next : ℕ) → m ≡ Sound n next → f n next ≡ g n next) → numbered m f ≡ numbered m g
+numbered_same : (m : Numeral) (f g : ℕ → ℕ → Found) → ((n next : ℕ) → m ≡ Ok (n, next) → f n next ≡ g n next) → numbered m f ≡ numbered m g
 unfolding numbered
-numbered_same (Sound n next) f g h = h n next refl
-numbered_same Cut f g h = refl
-numbered_same Padded f g h = refl
-numbered_same Above f g h = refl
+numbered_same (Ok (n, next)) f g h = h n next refl
+numbered_same (Err bad) f g h = refl
 
 module _ (t u : List ℕ) (from : ℕ) (same : drop from t ≡ drop from u) where
   later_same : (at : ℕ) → from ≤ at → drop at t ≡ drop at u

@@ -12,19 +12,18 @@ use lib.Seq.{drop-cons, drop-drop, get_or-drop, length-take-le, drop-append_seam
 use Rattle.memory.proofs.Tests.{split}
 use Rattle.trace.specs.declared.Call.{Call}
 use Rattle.trace.specs.declared.Call.TheVariants.{Clock, CpuRead, CpuWrite, PpuRegister, PpuFetch, Reset, PpuWrite}
-use Rattle.trace.specs.declared.Found.TheVariants.{Record}
-use Rattle.trace.specs.declared.Numeral.TheVariants.{Sound}
-use Rattle.trace.specs.Numbers.{grouped, numeral, limited, number_at}
-use Rattle.trace.specs.Records.{Form, whole, address, value, unknown, form_of, kind_of, numbered, filled, record_at}
+use Rattle.trace.specs.Numbers.{Numeral, grouped, numeral, limited, number_at}
+use Rattle.std.specs.Prelude.{Ok}
+use Rattle.trace.specs.Records.{Record, Form, whole, address, value, unknown, form_of, kind_of, numbered, filled, record_at}
 use Rattle.trace.specs.Promise.{InRange, SoundRecord, Bytes, shortest, numbers_of, Stands}
 use Rattle.trace.proofs.NumberLaws.{clash, number_advances}
 use Rattle.trace.proofs.FormLaws.{number_form, over_more}
-use Rattle.trace.proofs.RecordLaws.{by_kind, kind_left, Number-read, numbered_record, record_sound}
+use Rattle.trace.proofs.RecordLaws.{by_kind, kind_left, one_record, Number-read, numbered_record, record_sound}
 use Rattle.trace.proofs.WrongLaws.{power}
 
 -- Numbers --------------------------------------------------------------------------------------------------------------------------------------
 
-last_byte : (groups at b : ℕ) (bytes : List ℕ) → b < 128 → numeral (suc groups) at (b ∷ bytes) ≡ Sound b (at + 1)
+last_byte : (groups at b : ℕ) (bytes : List ℕ) → b < 128 → numeral (suc groups) at (b ∷ bytes) ≡ Ok (b, at + 1)
 unfolding numeral
 last_byte groups at b bytes h = rw (lt-ltb b 128 h)
 
@@ -32,11 +31,11 @@ further_byte : (groups at b : ℕ) (bytes : List ℕ) → 128 ≤ b → numeral 
 unfolding numeral
 further_byte groups at b bytes h = rw (le-ltb b 128 h)
 
-same_sound : (m n p q : ℕ) → m ≡ n → p ≡ q → Sound m p ≡ Sound n q
+same_sound : (m n p q : ℕ) → m ≡ n → p ≡ q → ◌≡◌ {A = Numeral} (Ok (m, p)) (Ok (n, q))
 same_sound m n p q e f = rw (e, f)
 
 -- The shortest form of a number is read as that number.
-reads_form : (groups at n : ℕ) (rest : List ℕ) → n < power (suc groups) → numeral (suc groups) at (shortest (suc groups) n ++ rest) ≡ Sound n (at + length (shortest (suc groups) n))
+reads_form : (groups at n : ℕ) (rest : List ℕ) → n < power (suc groups) → numeral (suc groups) at (shortest (suc groups) n ++ rest) ≡ Ok (n, at + length (shortest (suc groups) n))
 unfolding shortest power
 reads_form zero at n rest h =
     split (ltb n 128) (λ t. rw t (last_byte 0 at n rest (ltb-true n 128 t))) (λ t. absurd (omega (arith, h, ltb-false n 128 t)))
@@ -45,7 +44,7 @@ reads_form (suc groups) at n rest h =
     (λ t. rw t (last_byte (suc groups) at n rest (ltb-true n 128 t)))
     (λ t.
     let w : 128 ≤ n = ltb-false n 128 t in
-    let r : numeral (suc groups) (at + 1) (shortest (suc groups) (n / 128) ++ rest) ≡ Sound (n / 128) (at + 1 + length (shortest (suc groups) (n / 128))) =
+    let r : numeral (suc groups) (at + 1) (shortest (suc groups) (n / 128) ++ rest) ≡ Ok (n / 128, at + 1 + length (shortest (suc groups) (n / 128))) =
     reads_form groups (at + 1) (n / 128) rest (omega (arith, h)) in
     rw t
     (further_byte (suc groups) at (128 + n % 128) (shortest (suc groups) (n / 128) ++ rest) (omega arith)
@@ -55,7 +54,7 @@ reads_form (suc groups) at n rest h =
 
 -- A number's shortest form at a place of a trace: it is read, and what comes behind it stands at the next place.
 record Placed (groups limit : ℕ) (t : List ℕ) (at n : ℕ) (rest : List ℕ) : Type 0 where
-  sound : number_at groups limit t at ≡ Sound n (at + length (shortest groups n))
+  sound : number_at groups limit t at ≡ Ok (n, at + length (shortest groups n))
   behind : drop (at + length (shortest groups n)) t ≡ rest
 
 stands_read : (groups limit : ℕ) (t : List ℕ) (at n : ℕ) (rest : List ℕ) → n ≤ limit → limit < power (suc groups) → drop at t ≡ shortest (suc groups) n ++ rest
@@ -75,7 +74,7 @@ record Found-form (groups : ℕ) (t : List ℕ) (at n next : ℕ) : Type 0 where
   bytes : drop at t ≡ shortest groups n ++ drop next t
   place : next ≡ at + length (shortest groups n)
 
-found_form : (groups limit : ℕ) (t : List ℕ) (at n next : ℕ) → Bytes t → number_at groups limit t at ≡ Sound n next → Found-form groups t at n next
+found_form : (groups limit : ℕ) (t : List ℕ) (at n next : ℕ) → Bytes t → number_at groups limit t at ≡ Ok (n, next) → Found-form groups t at n next
 found_form groups limit t at n next h e =
     let f : take (next - at) (drop at t) ≡ shortest groups n = number_form groups limit t at n next h e in
     let a : (at < next) × (next ≤ length t) = number_advances groups limit t at n next e in
@@ -177,10 +176,9 @@ module _ (t : List ℕ) (h : Bytes t) (start : ℕ) (c : Call) (end : ℕ) where
   wrote : (at : ℕ) (form : Form) (done : List ℕ) → Writes form done → drop start t ≡ done ++ drop at t → at ≡ start + length done → filled t at form ≡ Record c end → Wrote
   unfolding Writes filled Wrote
   wrote at (whole made) done w b p e =
-      let i : at ≡ end = cc in
-      let j : made ≡ c = cc in
-      let d : numbers_of c ≡ done = ap numbers_of (sym j) ∙ w in
-      (b ∙ rw (d, i), sym i ∙ p ∙ ap (λ (l : List ℕ). start + length l) (sym d))
+      let i = one_record e in
+      let d : numbers_of c ≡ done = ap numbers_of (sym i.0) ∙ w in
+      (b ∙ rw (d, i.1), sym i.1 ∙ p ∙ ap (λ (l : List ℕ). start + length l) (sym d))
   wrote at (address rest) done w b p e = wrote_on 3 65535 at rest done b p e (λ n next. wrote next (rest n) (done ++ shortest 3 n) (w n))
   wrote at (value rest) done w b p e = wrote_on 2 255 at rest done b p e (λ n next. wrote next (rest n) (done ++ shortest 2 n) (w n))
   wrote at unknown done w b p e = clash (cc)

@@ -11,15 +11,14 @@ use lib.Seq.{drop-drop}
 use Rattle.memory.specs.Tests.{pick}
 use Rattle.memory.proofs.Tests.{split}
 use Rattle.answers.specs.declared.Refusal.TheVariants.{Number}
-use Rattle.trace.specs.declared.Found.{Found}
-use Rattle.trace.specs.declared.Found.TheVariants.{Refused}
-use Rattle.trace.specs.declared.Numeral.{Numeral}
-use Rattle.trace.specs.declared.Numeral.TheVariants.{Sound, Cut, Padded, Above}
-use Rattle.trace.specs.Numbers.{grouped, numeral, limited, number_at}
-use Rattle.trace.specs.Records.{Form, whole, address, value, unknown, form_of, numbered, filled, record_at}
+use Rattle.std.specs.Prelude.{Ok, Err}
+use Rattle.trace.specs.declared.BadNumber.{BadNumber}
+use Rattle.trace.specs.declared.BadNumber.TheVariants.{Cut, Padded, Above}
+use Rattle.trace.specs.Numbers.{Numeral, numeral, limited, number_at}
+use Rattle.trace.specs.Records.{Found, Refused, Form, whole, address, value, unknown, form_of, numbered, filled, record_at}
 use Rattle.trace.specs.Refusals.{topped, worth, is_cut, is_padded, is_above, is_wrong, limits, any_wrong, refusal_at}
 use Rattle.trace.specs.Promise.{number_found}
-use Rattle.trace.proofs.FormLaws.{over_none, over_padded, over_more}
+use Rattle.trace.proofs.FormLaws.{over_none, over_bad, over_more}
 use Rattle.trace.proofs.RecordLaws.{by_kind, by_byte, has_none, none_left, kind_left}
 
 -- The powers of 128.
@@ -64,15 +63,7 @@ topped_inside [] = omega arith
 topped_inside (b ∷ bytes) = split (ltb b 128) (λ t. rw t (omega arith)) (λ t. rw t (omega (arith, topped_inside bytes)))
 
 -- What a number is read as, by its groups.
-over_cut : (low weight : ℕ) (m : Numeral) → m ≡ Cut → grouped low weight m ≡ Cut
-unfolding grouped
-over_cut low weight m e = rw e
-
-over_above : (low weight : ℕ) (m : Numeral) → m ≡ Above → grouped low weight m ≡ Above
-unfolding grouped
-over_above low weight m e = rw e
-
-reads_cut : (groups at : ℕ) (bytes : List ℕ) → topped bytes < groups → topped bytes ≡ length bytes → numeral groups at bytes ≡ Cut
+reads_cut : (groups at : ℕ) (bytes : List ℕ) → topped bytes < groups → topped bytes ≡ length bytes → numeral groups at bytes ≡ Err Cut
 unfolding numeral topped
 reads_cut zero at bytes h e = absurd (omega (arith, h))
 reads_cut (suc groups) at [] h e = refl
@@ -82,9 +73,9 @@ reads_cut (suc groups) at (b ∷ bytes) h e =
     (λ t.
     let k : suc (topped bytes) < suc groups = rw t at h in
     let f : suc (topped bytes) ≡ suc (length bytes) = rw t at e in
-    rw t (over_cut (b % 128) 128 (numeral groups (at + 1) bytes) (reads_cut groups (at + 1) bytes (omega (arith, k)) (omega (arith, f)))))
+    rw t (over_bad (b % 128) 128 (numeral groups (at + 1) bytes) Cut (reads_cut groups (at + 1) bytes (omega (arith, k)) (omega (arith, f)))))
 
-reads_above : (groups at : ℕ) (bytes : List ℕ) → groups ≤ topped bytes → numeral groups at bytes ≡ Above
+reads_above : (groups at : ℕ) (bytes : List ℕ) → groups ≤ topped bytes → numeral groups at bytes ≡ Err Above
 unfolding numeral topped
 reads_above zero at bytes h = refl
 reads_above (suc groups) at [] h = absurd (omega (arith, h))
@@ -93,29 +84,29 @@ reads_above (suc groups) at (b ∷ bytes) h =
     (λ t. let k : suc groups ≤ 0 = rw t at h in absurd (omega (arith, k)))
     (λ t.
     let k : suc groups ≤ suc (topped bytes) = rw t at h in
-    rw t (over_above (b % 128) 128 (numeral groups (at + 1) bytes) (reads_above groups (at + 1) bytes (omega (arith, k)))))
+    rw t (over_bad (b % 128) 128 (numeral groups (at + 1) bytes) Above (reads_above groups (at + 1) bytes (omega (arith, k)))))
 
 reads_sum : (groups at : ℕ) (bytes : List ℕ) → topped bytes < groups → topped bytes < length bytes → (0 < topped bytes → last bytes ≡ 0 → ⊥)
-    → numeral groups at bytes ≡ Sound (sum bytes) (at + suc (topped bytes))
+    → numeral groups at bytes ≡ Ok (sum bytes, at + suc (topped bytes))
 unfolding numeral topped worth
 reads_sum zero at bytes h i n = absurd (omega (arith, h))
 reads_sum (suc groups) at [] h i n = absurd (omega (arith, i))
 reads_sum (suc groups) at (b ∷ bytes) h i n =
     split (ltb b 128)
-    (λ t. rw t (ap (λ (v : ℕ). Sound v (at + 1)) (omega (arith, ltb-true b 128 t))))
+    (λ t. rw t (ap (λ (v : ℕ). Ok (v, at + 1)) (omega (arith, ltb-true b 128 t))))
     (λ t.
     let k : suc (topped bytes) < suc groups = rw t at h in
     let j : suc (topped bytes) < suc (length bytes) = rw t at i in
     let m : 0 < suc (topped bytes) → last bytes ≡ 0 → ⊥ = rw t at n in
     let z : last bytes ≡ 0 → ⊥ = m (omega arith) in
-    let r : numeral groups (at + 1) bytes ≡ Sound (sum bytes) (at + 1 + suc (topped bytes)) = reads_sum groups (at + 1) bytes (omega (arith, k)) (omega (arith, j)) (λ p. z) in
+    let r : numeral groups (at + 1) bytes ≡ Ok (sum bytes, at + 1 + suc (topped bytes)) = reads_sum groups (at + 1) bytes (omega (arith, k)) (omega (arith, j)) (λ p. z) in
     rw t
     (over_more (b % 128) 128 (numeral groups (at + 1) bytes) (sum bytes) (at + 1 + suc (topped bytes)) r
     (λ e. absurd (omega (arith, e, last_counts bytes z, power_some (topped bytes))))
-    ∙ ap (λ (p : ℕ). Sound (b % 128 + 128 * sum bytes) p) (omega arith)))
+    ∙ ap (λ (p : ℕ). Ok (b % 128 + 128 * sum bytes, p)) (omega arith)))
 
 reads_padded : (groups at : ℕ) (bytes : List ℕ) → topped bytes < groups → topped bytes < length bytes → 0 < topped bytes → last bytes ≡ 0
-    → numeral groups at bytes ≡ Padded
+    → numeral groups at bytes ≡ Err Padded
 unfolding numeral topped
 reads_padded zero at bytes h i p e = absurd (omega (arith, h))
 reads_padded (suc groups) at [] h i p e = absurd (omega (arith, i))
@@ -129,13 +120,13 @@ reads_padded (suc groups) at (b ∷ bytes) h i p e =
     rw t
     (split (ltb 0 (topped bytes))
     (λ more.
-    over_padded (b % 128) 128 (numeral groups (at + 1) bytes)
+    over_bad (b % 128) 128 (numeral groups (at + 1) bytes) Padded
     (reads_padded groups (at + 1) bytes (omega (arith, k)) (omega (arith, j)) (ltb-true 0 (topped bytes) more) z))
     (λ none.
     let o : topped bytes ≡ 0 = omega (arith, ltb-false 0 (topped bytes) none) in
     over_none (b % 128) 128 (numeral groups (at + 1) bytes) (at + 1 + suc (topped bytes))
     (reads_sum groups (at + 1) bytes (omega (arith, k)) (omega (arith, j)) (λ q. absurd (omega (arith, q, o)))
-    ∙ ap (λ (v : ℕ). Sound v (at + 1 + suc (topped bytes))) (only_none bytes o z)))))
+    ∙ ap (λ (v : ℕ). Ok (v, at + 1 + suc (topped bytes))) (only_none bytes o z)))))
 
 -- The same as tests: a wrong number is refused, another is read.
 and_off : (a b : Bool) → a && b ≡ false → a ≡ true → b ≡ false
@@ -159,19 +150,11 @@ module _ (groups limit at : ℕ) (bytes : List ℕ) where
   Refuses : Numeral → Type 0
   Refuses m = (f : ℕ → ℕ → Found) → numbered m f ≡ Refused Number
 
-  refuses_cut : (m : Numeral) → m ≡ Cut → Refuses (limited limit m)
+  refuses_bad : (m : Numeral) (bad : BadNumber) → m ≡ Err bad → Refuses (limited limit m)
   unfolding Refuses limited numbered
-  refuses_cut m e f = rw e
+  refuses_bad m bad e f = rw e
 
-  refuses_padded : (m : Numeral) → m ≡ Padded → Refuses (limited limit m)
-  unfolding Refuses limited numbered
-  refuses_padded m e f = rw e
-
-  refuses_above : (m : Numeral) → m ≡ Above → Refuses (limited limit m)
-  unfolding Refuses limited numbered
-  refuses_above m e f = rw e
-
-  refuses_large : (m : Numeral) (n next : ℕ) → m ≡ Sound n next → limit < n → Refuses (limited limit m)
+  refuses_large : (m : Numeral) (n next : ℕ) → m ≡ Ok (n, next) → limit < n → Refuses (limited limit m)
   unfolding Refuses limited numbered
   refuses_large m n next e h f = rw (e, lt-leb n limit h)
 
@@ -181,20 +164,20 @@ module _ (groups limit at : ℕ) (bytes : List ℕ) where
       (λ few.
       let g : topped bytes < groups = ltb-true (topped bytes) groups few in
       split (is_cut bytes)
-      (λ c. refuses_cut (numeral groups at bytes) (reads_cut groups at bytes g (eqb-true (topped bytes) (length bytes) c)))
+      (λ c. refuses_bad (numeral groups at bytes) Cut (reads_cut groups at bytes g (eqb-true (topped bytes) (length bytes) c)))
       (λ c.
       let i : topped bytes < length bytes = omega (arith, topped_inside bytes, eqb-false (topped bytes) (length bytes) c) in
       split (ltb 0 (topped bytes))
       (λ p.
       split (eqb (last bytes) 0)
-      (λ z. refuses_padded (numeral groups at bytes) (reads_padded groups at bytes g i (ltb-true 0 (topped bytes) p) (eqb-true (last bytes) 0 z)))
+      (λ z. refuses_bad (numeral groups at bytes) Padded (reads_padded groups at bytes g i (ltb-true 0 (topped bytes) p) (eqb-true (last bytes) 0 z)))
       (λ z. refuses_large (numeral groups at bytes) (sum bytes) (at + suc (topped bytes)) (reads_sum groups at bytes g i (λ q. eqb-false (last bytes) 0 z))
       (ltb-true limit (sum bytes) (rw (c, p, z) at w))))
       (λ p. refuses_large (numeral groups at bytes) (sum bytes) (at + suc (topped bytes)) (reads_sum groups at bytes g i (λ q. absurd (omega (arith, q, ltb-false 0 (topped bytes) p))))
       (ltb-true limit (sum bytes) (rw (c, p) at w)))))
-      (λ many. refuses_above (numeral groups at bytes) (reads_above groups at bytes (ltb-false (topped bytes) groups many)))
+      (λ many. refuses_bad (numeral groups at bytes) Above (reads_above groups at bytes (ltb-false (topped bytes) groups many)))
 
-  right_read : 1 ≤ groups → limit < power groups → is_wrong limit bytes ≡ false → limited limit (numeral groups at bytes) ≡ Sound (sum bytes) (at + suc (topped bytes))
+  right_read : 1 ≤ groups → limit < power groups → is_wrong limit bytes ≡ false → limited limit (numeral groups at bytes) ≡ Ok (sum bytes, at + suc (topped bytes))
   unfolding limited
   right_read some wide w =
       let c : is_cut bytes ≡ false = or_left (is_cut bytes) (is_padded bytes || is_above limit bytes) w in

@@ -2,8 +2,7 @@
 use Rattle.std.specs.Prelude.{ℕ, List, [], ◌∷◌, ◌≡◌}
 use Rattle.answers.specs.declared.Refusal.TheVariants.{Kind, Number}
 use Rattle.trace.specs.declared.Call.TheVariants.{Clock, CpuRead, CpuWrite, PpuRegister, PpuFetch, Reset, PpuWrite}
-use Rattle.trace.specs.declared.Found.TheVariants.{End, Record, Refused}
-use Rattle.trace.specs.Records.{cpu, ppu, record_at}
+use Rattle.trace.specs.Records.{cpu, ppu, End, Record, Refused, record_at}
 
 -- 01's worked input: 01 80 C0 03 02 85 A4 01 07 01 85 A4 01 01 86 A4 01 00 04 80 40.
 abbrev pub worked : List ℕ

@@ -1,12 +1,10 @@
 -- What is promised of reading beyond the definition of `record_at`, as one statement, which the contract of `promises` holds. Assumes nothing.
-use Rattle.std.specs.Prelude.{ℕ, zero, suc, ◌+◌, ◌/◌, ◌%◌, ◌<◌, ◌≤◌, List, [], ◌∷◌, ◌++◌, ◌↔◌, ◌≡◌, ltb, length, get_or, drop}
+use Rattle.std.specs.Prelude.{ℕ, zero, suc, ◌+◌, ◌/◌, ◌%◌, ◌<◌, ◌≤◌, Ok, Err, List, [], ◌∷◌, ◌++◌, ◌↔◌, ◌≡◌, ltb, length, get_or, drop}
 use Rattle.memory.specs.Tests.{pick}
 use Rattle.answers.specs.Numbers.{number_of}
 use Rattle.trace.specs.declared.Call.{Call}
 use Rattle.trace.specs.declared.Call.TheVariants.{Clock, CpuRead, CpuWrite, PpuRegister, PpuFetch, Reset, PpuWrite}
-use Rattle.trace.specs.declared.Found.{Found}
-use Rattle.trace.specs.declared.Found.TheVariants.{End, Record, Refused}
-use Rattle.trace.specs.Records.{kind_of, record_at}
+use Rattle.trace.specs.Records.{Found, End, Record, kind_of, record_at}
 use Rattle.trace.specs.Refusals.{refusal_at}
 
 -- "Addresses to 65,535, values to 255."
@@ -29,9 +27,8 @@ pub record SoundRecord (trace : List ℕ) (at : ℕ) (call : Call) (next : ℕ) 
 
 -- The number of the refusal in what stands at a place, 0 where there is none.
 abbrev pub number_found : Found → ℕ
-number_found End = 0
-number_found (Record call next) = 0
-number_found (Refused why) = number_of why
+number_found (Ok found) = 0
+number_found (Err why) = number_of why
 
 -- A list that a slice of bytes can hold.
 abbrev pub Bytes : List ℕ → Type 0

@@ -1,16 +1,13 @@
 -- Records in a trace: the kinds, and what stands at a place of a list of bytes. Assumes nothing of the bytes.
-use Rattle.std.specs.Prelude.{ℕ, ◌+◌, ◌<◌, Bool, List, [], ◌∷◌, ◌≡◌, ltb, length, get_or}
+use Rattle.std.specs.Prelude.{ℕ, ◌+◌, Bool, Option, None, Some, Result, Ok, Err, List, [], ◌∷◌, ltb, length, get_or}
 use Rattle.memory.specs.Tests.{pick}
 use Rattle.memory.specs.declared.CpuAddr.{CpuAddr}
 use Rattle.memory.specs.declared.PpuAddr.{PpuAddr}
+use Rattle.answers.specs.declared.Refusal.{Refusal}
 use Rattle.answers.specs.declared.Refusal.TheVariants.{Kind, Number}
 use Rattle.trace.specs.declared.Call.{Call}
 use Rattle.trace.specs.declared.Call.TheVariants.{Clock, CpuRead, CpuWrite, PpuRegister, PpuFetch, Reset, PpuWrite}
-use Rattle.trace.specs.declared.Found.{Found}
-use Rattle.trace.specs.declared.Found.TheVariants.{End, Record, Refused}
-use Rattle.trace.specs.declared.Numeral.{Numeral}
-use Rattle.trace.specs.declared.Numeral.TheVariants.{Sound, Cut, Padded, Above}
-use Rattle.trace.specs.Numbers.{address_at, value_at}
+use Rattle.trace.specs.Numbers.{Numeral, address_at, value_at}
 
 abbrev pub cpu : ℕ → CpuAddr
 cpu n = record { 0 = n }
@@ -52,12 +49,23 @@ kind_of (PpuFetch a) = 4
 kind_of Reset = 5
 kind_of (PpuWrite a v) = 6
 
+-- What stands at a place of a trace: a record and the place after it, nothing more, or what cannot be read.
+abbrev pub Found : Type 0
+Found = Result (Option (Call × ℕ)) Refusal
+
+abbrev pub End : Found
+End = Ok None
+
+abbrev pub Record : Call → ℕ → Found
+Record call next = Ok (Some (call, next))
+
+abbrev pub Refused : Refusal → Found
+Refused why = Err why
+
 -- What is read on where a number is sound. Refusal 10: "a number is cut, not in shortest form, or above its limit".
-unfoldable pub numbered : Numeral → (ℕ → ℕ → Found) → Found
-numbered (Sound n next) f = f n next
-numbered Cut f = Refused Number
-numbered Padded f = Refused Number
-numbered Above f = Refused Number
+unfoldable pub numbered : {A : Type 0} → Numeral → (ℕ → ℕ → Result A Refusal) → Result A Refusal
+numbered (Ok (n, next)) f = f n next
+numbered (Err bad) f = Err Number
 
 -- A form filled from a place of a trace on, its numbers in their order. Refusal 9: "unknown record kind".
 unfoldable pub filled : List ℕ → ℕ → Form → Found
@@ -73,22 +81,3 @@ record_at trace at = pick (ltb at (length trace)) (filled trace (at + 1) (form_o
 -- Refusal 11: "trace longer than 8,192 bytes".
 abbrev pub too_long : ℕ → Bool
 too_long len = ltb 8192 len
-
--- For the steps of `record_at`. The kinds that have an address: 1, 2, 3, 4 and 6. Those that have a value after it: 2, 3 and 6.
-pub record HasAddress (kind : ℕ) : Type 0 where
-  pub no_clock : 0 < kind
-  pub known : kind < 7
-  pub no_reset : kind ≡ 5 → ⊥
-
-pub record HasValue (kind : ℕ) : Type 0 where
-  pub no_read : 1 < kind
-  pub known : kind < 7
-  pub no_fetch : kind ≡ 4 → ⊥
-  pub no_reset : kind ≡ 5 → ⊥
-
--- What is left of a form once its next number is known.
-unfoldable pub taking : Form → ℕ → Form
-taking (whole call) n = unknown
-taking (address rest) n = rest n
-taking (value rest) n = rest n
-taking unknown n = unknown

@@ -4,6 +4,7 @@
 #![tactic(auto)]
 
 ghost use Rattle.std.specs.Prelude.{◌≡◌};
+ghost use Rattle.answers.specs.declared.Refusal.TheVariants.{Number};
 ghost use Rattle.trace.specs.Records.{kind_of, too_long};
 ghost use Rattle.trace.specs.Promise.{Reading};
 ghost use Rattle.trace.specs.Cartridge.{CartridgeBytes};
@@ -28,22 +29,27 @@ pub enum Call {
     PpuWrite(PpuAddr, u8),
 }
 
-// What stands where a number is to be read: a number and the place after it, or why there is none.
-#[derive(Clone, Copy)]
-pub enum Numeral {
-    Sound(u32, usize),
+// Why no number stands where one is to be read.
+#[derive(Clone, Copy, Debug, PartialEq, Eq)]
+pub enum BadNumber {
     Cut,
     Padded,
     Above,
 }
 
-// What stands at a place of a trace: nothing more, a record and the place after it, or what cannot be read.
-#[derive(Clone, Copy)]
-pub enum Found {
-    End,
-    Record(Call, usize),
-    Refused(Refusal),
+impl From<BadNumber> for Refusal {
+    ghost from_gives = { λ _ refusal. refusal ≡ Number };
+
+    fn from(_bad: BadNumber) -> Refusal {
+        Refusal::Number
+    }
 }
+
+// What stands where a number is to be read: a number and the place after it.
+pub type Numeral = Result<(u32, usize), BadNumber>;
+
+// What stands at a place of a trace: a record and the place after it, nothing more, or what cannot be read.
+pub type Found = Result<Option<(Call, usize)>, Refusal>;
 
 // The kind byte of a call's record.
 pub fn kind_of(call: Call) -> u8

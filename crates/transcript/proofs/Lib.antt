@@ -1,7 +1,6 @@
 pub mod Printing
 pub mod Pages
 pub mod Overs
-pub mod Counting
 pub mod Telling
 pub mod EnoughLines
 pub mod Small

@@ -5,6 +5,7 @@ use mathlib.Core.List.{List, [], ◌∷◌}
 use native.Mathlib.Omega.{arith}
 use lib.Dec.{eqb, leb, ltb}
 use lib.ListN.{get_or, set}
+use Rattle.std.specs.Prelude.{Ok, Err}
 use Rattle.memory.specs.declared.Page.{Page}
 use Rattle.memory.specs.declared.PageWord.{PageWord}
 use Rattle.memory.specs.declared.Src.{Src}
@@ -25,10 +26,8 @@ use Rattle.scanline.specs.Steps.{dark, seen_at, clocked}
 use Rattle.split.specs.declared.VSplit.{VSplit}
 use Rattle.split.specs.Control.{split_active}
 use Rattle.split.specs.Region.{after_name}
-use Rattle.state.specs.declared.gate.Gate.{Gate}
-use Rattle.state.specs.declared.gate.Gate.TheVariants.{Open, Shut}
 use Rattle.state.specs.declared.State.{State}
-use Rattle.state.specs.Gate.{gate_mem}
+use Rattle.state.specs.Gate.{Gate, gate_mem}
 use Rattle.state.specs.Ranges.{in_range}
 use Rattle.state.specs.With.{with_irq, with_ppu}
 use Rattle.cpu.specs.Groups.{within, split_after, irq_after, prg_banks_after, chr_banks_after}
@@ -156,8 +155,8 @@ unstored : (o : Outcome) (m : Mem) → SmallOut o → SmallMem m → SmallAfter 
 unstored o m h k = record { answer = h.0; state = h.1; mem = k }
 
 pub behind_keeps : {A : Type 0} (P : A → Type 0) (g : Gate) (f : Refusal → A) (x : A) → ((why : Refusal) → P (f why)) → P x → P (behind g f x)
-behind_keeps P Open f x r h = h
-behind_keeps P (Shut why) f x r h = r why
+behind_keeps P (Ok u) f x r h = h
+behind_keeps P (Err why) f x r h = r why
 
 with_irq_lem : (s : State) (d : Detector) → SmallLine d → SmallState s → SmallState (with_irq s d)
 with_irq_lem s d k h = record { regs = h.regs; split = h.split; line = k; prg_banks = h.prg_banks; chr_banks = h.chr_banks }

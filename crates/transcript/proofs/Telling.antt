@@ -10,6 +10,7 @@ use lib.ListN.{length, get_or, set, length-set}
 use lib.Seq.{get_or-set_same, get_or-set_other}
 use Rattle.memory.specs.Bytes.{Mem}
 use Rattle.memory.specs.Bits.{as_bit}
+use Rattle.memory.specs.Tests.{pick}
 use Rattle.answers.specs.declared.Answer.{Answer}
 use Rattle.answers.specs.declared.Answer.TheVariants.{Refused}
 use Rattle.answers.specs.declared.Refusal.{Refusal}
@@ -19,9 +20,8 @@ use Rattle.scanline.specs.Steps.{interrupt_up}
 use Rattle.state.specs.declared.State.{State}
 use Rattle.board.specs.Outcomes.{After}
 use Rattle.trace.specs.declared.Call.{Call}
-use Rattle.trace.specs.declared.Found.{Found}
-use Rattle.trace.specs.declared.Found.TheVariants.{End, Record, Refused as Unreadable}
-use Rattle.trace.specs.Records.{kind_of, record_at}
+use Rattle.std.specs.Prelude.{None, Some, Ok, Err}
+use Rattle.trace.specs.Records.{Found, End, Record, Refused as Unreadable, kind_of, record_at}
 use Rattle.trace.proofs.RecordLaws.{record_advances}
 use Rattle.text.specs.Lines.{logged_line, accepted_line}
 use Rattle.text.proofs.LineLaws.{logged as logged-line}
@@ -31,22 +31,22 @@ use Rattle.logs.specs.Logs.{log_letter, logged}
 use Rattle.player.specs.Replay.{Left, played_from}
 use Rattle.player.proofs.Steps.{logged_length}
 use Rattle.player.proofs.Ways.{by_found}
-use Rattle.transcript.specs.Printed.{stopped_at, printed_from}
+use Rattle.transcript.specs.Printed.{refusal_at, printed_from}
 use Rattle.transcript.specs.Lines.{lines_from, PrintedIsLines}
 
 -- A replay stops no sooner than where it begins.
 abbrev NotBefore : ℕ → Left → Type 0
-NotBefore at l = (b : ℕ) → b < at → stopped_at l.out.ending b ≡ false
+NotBefore at l = (b : ℕ) → b < at → refusal_at l.out.ending b ≡ None
 
-stop_apart : (at b : ℕ) → b < at → eqb b at ≡ false
-stop_apart at b h = ne_eqb b at (λ e. absurd (omega (arith, h, e)))
+stop_apart : (at b : ℕ) (why : Refusal) → b < at → pick (eqb b at) (Some why) None ≡ None
+stop_apart at b why h = rw (ne_eqb b at (λ e. absurd (omega (arith, h, e))))
 
 stops_later : (k : ℕ) (trace : List ℕ) (at n : ℕ) (s : State) (m : Mem) (log : List ℕ) → NotBefore at (played_from k trace at n s m log)
 unfolding played_from
 stops_later zero trace at n s m log = λ b h. refl
 stops_later (suc k) trace at n s m log =
-    by_found (NotBefore at) (record_at trace at) _ _ _ (λ e b h. refl) (λ why e b h. stop_apart at b h)
-    (λ call next r. if_refused_lem (NotBefore at) (called call s m).out.answer _ _ (λ why e b h. stop_apart at b h)
+    by_found (NotBefore at) (record_at trace at) _ _ _ (λ e b h. refl) (λ why e b h. stop_apart at b why h)
+    (λ call next r. if_refused_lem (NotBefore at) (called call s m).out.answer _ _ (λ why e b h. stop_apart at b why h)
     (λ e b h. stops_later k trace next (n + 1) _ _ _ b (omega (arith, h, (record_advances trace at call next r).0))))
 
 -- What is logged stays: later records are logged behind it.
@@ -146,9 +146,9 @@ Lined k =
 
 on_record : (k : ℕ) → Lined k → (trace : List ℕ) (at n : ℕ) (s : State) (m : Mem) (log : List ℕ) → n ≤ at → 2 * length trace ≤ length log → (r : Found) → record_at trace at ≡ r
     → printed_from (suc k) trace at n (played_from (suc k) trace at n s m log).log (played_from (suc k) trace at n s m log).out.ending ≡ lines_from (suc k) trace at n s m
-on_record k ih trace at n s m log i h End r = ended_here k trace at n s m log r
-on_record k ih trace at n s m log i h (Unreadable why) r = unreadable_here k trace at n s m log why r
-on_record k ih trace at n s m log i h (Record call next) r =
+on_record k ih trace at n s m log i h (Ok None) r = ended_here k trace at n s m log r
+on_record k ih trace at n s m log i h (Err why) r = unreadable_here k trace at n s m log why r
+on_record k ih trace at n s m log i h (Ok (Some (call, next))) r =
     let o = record_advances trace at call next r in
     let c = called call s m in
     refused_or_not c.out.answer (refused_here k trace at n s m log call next r)

@@ -11,8 +11,7 @@ use lib.ListN.{length, replicate, length-replicate}
 use Rattle.memory.proofs.Tests.{split}
 use Rattle.answers.specs.declared.Answer.TheVariants.{Nothing}
 use Rattle.registers.specs.declared.Mirroring.TheVariants.{Horizontal}
-use Rattle.state.specs.declared.gate.Gate.TheVariants.{Open}
-use Rattle.state.specs.Gate.{gate_mem}
+use Rattle.state.specs.Gate.{Open, gate_mem}
 use Rattle.board.specs.Loads.{load_call}
 use Rattle.theorems_promises.specs.Loading.{good_prg, good_chr, good_ram}
 use Rattle.theorems_promises.proofs.Loadings.{load_refusals}

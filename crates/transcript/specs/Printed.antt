@@ -1,39 +1,34 @@
 -- What is printed of a replay: its lines, told by the trace, the log and how the replay ended. Assumes nothing.
-use Rattle.std.specs.Prelude.{ℕ, zero, suc, ◌+◌, ◌*◌, Bool, false, not, List, [], ◌++◌, eqb, length, get_or}
+use Rattle.std.specs.Prelude.{ℕ, zero, suc, ◌+◌, ◌*◌, Option, None, Some, Ok, Err, List, [], ◌++◌, eqb, length, get_or}
 use Rattle.memory.specs.Tests.{pick}
 use Rattle.answers.specs.declared.Refusal.{Refusal}
-use Rattle.answers.specs.declared.Refusal.TheVariants.{Length}
 use Rattle.trace.specs.declared.Call.{Call}
-use Rattle.trace.specs.declared.Found.{Found}
-use Rattle.trace.specs.Records.{kind_of, record_at, too_long}
+use Rattle.trace.specs.Records.{Found, kind_of, record_at, too_long}
 use Rattle.text.specs.Lines.{logged_line, refused_line, unreadable_line, too_long_line, end_line}
-use Rattle.player.specs.declared.Ending.{Ending}
-use Rattle.player.specs.declared.Ending.TheVariants.{Done, Stopped}
-use Rattle.player.specs.Replay.{found}
+use Rattle.player.specs.Replay.{Ending, found}
 
--- The replay stopped at this place, and why.
-abbrev pub stopped_at : Ending → ℕ → Bool
-stopped_at (Done count) at = false
-stopped_at (Stopped place why) at = eqb at place
+-- Why the replay stopped at a place, if it did.
+abbrev pub refusal_at : Ending → ℕ → Option Refusal
+refusal_at (Ok count) at = None
+refusal_at (Err stopped) at = pick (eqb at stopped.place) (Some stopped.refusal) None
 
-abbrev pub why_of : Ending → Refusal
-why_of (Done count) = Length
-why_of (Stopped place why) = why
+-- What is told of a record: a refused call, or an accepted one.
+abbrev pub if_stopped : {A : Type 0} → Option Refusal → (Refusal → A) → A → A
+if_stopped (Some why) stop go = stop why
+if_stopped None stop go = go
 
--- The line of what stands at a place, as record n; whether a record follows it, and where.
+-- The line of what stands at a place, as record n; and where the record that follows it begins, if one does.
 unfoldable pub line_of : Found → ℕ → ℕ → List ℕ → Ending → List ℕ
 line_of f at n log e =
     found f
     (end_line n)
     (λ (why : Refusal). unreadable_line n why)
     (λ (call : Call) (next : ℕ).
-    pick (stopped_at e at) (refused_line n (kind_of call) (why_of e)) (logged_line n (kind_of call) (get_or log (2 * n) 0) (get_or log (2 * n + 1) 0)))
+    if_stopped (refusal_at e at) (λ (why : Refusal). refused_line n (kind_of call) why) (logged_line n (kind_of call) (get_or log (2 * n) 0) (get_or log (2 * n + 1) 0)))
 
-unfoldable pub goes_on : Found → ℕ → Ending → Bool
-goes_on f at e = found f false (λ (why : Refusal). false) (λ (call : Call) (next : ℕ). not (stopped_at e at))
-
-unfoldable pub next_of : Found → ℕ → ℕ
-next_of f at = found f at (λ (why : Refusal). at) (λ (call : Call) (next : ℕ). next)
+unfoldable pub next_of : Found → ℕ → Ending → Option ℕ
+next_of f at e =
+    found f None (λ (why : Refusal). None) (λ (call : Call) (next : ℕ). if_stopped (refusal_at e at) (λ (why : Refusal). None) (Some next))
 
 -- The lines from record n on, which begins at a place; at most so many. 01: "One line per record"; "A refused call prints number, kind, `!`, refusal;
 -- an unreadable record prints number, `?`, refusal; either ends it." "Else `end` and the count."
@@ -44,7 +39,7 @@ printed_from (suc k) trace at n log e =
     (end_line n)
     (λ (why : Refusal). unreadable_line n why)
     (λ (call : Call) (next : ℕ).
-    pick (stopped_at e at) (refused_line n (kind_of call) (why_of e))
+    if_stopped (refusal_at e at) (λ (why : Refusal). refused_line n (kind_of call) why)
     (logged_line n (kind_of call) (get_or log (2 * n) 0) (get_or log (2 * n + 1) 0) ++ printed_from k trace next (n + 1) log e))
 
 -- "Too long prints `? 11` only."

@@ -14,10 +14,8 @@ fn count_pages(bytes: &mut [u8], first: u8)
     requires { first + length bytes.old / 1024 ≤ 255 }
     ensures { bytes.new ≡ placed bytes.old 0 (λ (i : ℕ). first + i / 1024) (length bytes.old) }
 {
-    let mut i: usize = 0;
-    while i < bytes.len() {
-        bytes[i] = first + (i / 1024) as u8;
-        i += 1;
+    for (i, byte) in bytes.iter_mut().enumerate() {
+        *byte = first + (i / 1024) as u8;
     }
 }
 

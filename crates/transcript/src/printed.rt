@@ -1,120 +1,83 @@
 // The lines of a replay, written into a lent buffer.
 ghost use Rattle.std.specs.Prelude.{◌≡◌, suc, ◌≤◌, length};
-ghost use Rattle.text.specs.Sheet.{sheet, text_written};
-ghost use Rattle.transcript.specs.Printed.{stopped_at, why_of, line_of, goes_on, next_of, printed_from, printed};
+ghost use Rattle.text.specs.Sheet.{sheet, text_written, written};
+ghost use Rattle.trace.specs.Records.{record_at};
+ghost use Rattle.transcript.specs.Printed.{refusal_at, line_of, next_of, printed_from, printed};
 
 use answers::Refusal;
 use player::Ending;
-use trace::Found;
+use text::pen::Pen;
+use trace::reader::Reader;
 
-// Whether the replay stopped at a place.
-fn stopped_at(ending: Ending, at: usize) -> bool
-    ensures { result ≡ stopped_at ending at }
+// Why the replay stopped at a place, if it did.
+fn refusal_at(ending: Ending, at: usize) -> Option<Refusal>
+    ensures { result ≡ refusal_at ending at }
 {
     match ending {
-        Ending::Done(_) => false,
-        Ending::Stopped(place, _) => at == place,
+        Err(stopped) if at == stopped.place => Some(stopped.refusal),
+        _ => None,
     }
 }
 
-fn why_of(ending: Ending) -> Refusal
-    ensures { result ≡ why_of ending }
-{
-    match ending {
-        Ending::Done(_) => Refusal::Length,
-        Ending::Stopped(_, why) => why,
-    }
-}
-
-// What a record's line leaves: where the text goes on, whether a record follows, and its place.
-#[derive(Clone, Copy)]
-struct Line {
-    to: usize,
-    more: bool,
-    next: usize,
-}
-
-// The line of what the reader found at a place, as record n.
-fn print_record(
-    out: &mut [u8],
-    to: usize,
+// The line of what stands at a reader's place, as record n; and the place of the record that follows, if one does.
+fn print_record<'a>(
+    pen: &mut Pen<'_>,
     n: usize,
-    at: usize,
-    found: Found,
+    reader: Reader<'a>,
     log: &[u8],
     ending: Ending,
-) -> Line
+) -> Option<usize>
     requires { n ≤ 8192 }
-    ensures { (sheet out.new result.to ≡ text_written (sheet out.old to) (line_of found at n log.now ending))
-        × ((result.more ≡ goes_on found at ending) × (result.next ≡ next_of found at)) }
+    ensures { (pen.new
+        ≡ written pen.old (line_of (record_at reader.entry.trace.now reader.entry.at) reader.entry.at n log.now ending))
+        × (result ≡ next_of (record_at reader.entry.trace.now reader.entry.at) reader.entry.at ending) }
 {
-    match found {
-        Found::End => {
-            let end = text::lines::end_line(out, to, n as u32);
-            return Line {
-                to: end,
-                more: false,
-                next: at,
-            };
+    match trace::reader::next_record(reader) {
+        Ok(None) => {
+            pen.end_line(n as u32);
+            None
         }
-        Found::Refused(why) => {
-            let end = text::lines::unreadable_line(out, to, n as u32, why);
-            return Line {
-                to: end,
-                more: false,
-                next: at,
-            };
+        Err(why) => {
+            pen.unreadable_line(n as u32, why);
+            None
         }
-        Found::Record(call, next) => {
+        Ok(Some((call, next))) => {
             let kind = trace::kind_of(call);
-            if stopped_at(ending, at) {
-                let why = why_of(ending);
-                let end = text::lines::refused_line(out, to, n as u32, kind, why);
-                return Line {
-                    to: end,
-                    more: false,
-                    next,
-                };
+            if let Some(why) = refusal_at(ending, reader.at) {
+                pen.refused_line(n as u32, kind, why);
+                return None;
             }
             let first = memory::bytes::byte(log, 2 * n);
             let second = memory::bytes::byte(log, 2 * n + 1);
-            let end = text::lines::logged_line(out, to, n as u32, kind, first, second);
-            return Line {
-                to: end,
-                more: true,
-                next,
-            };
+            pen.logged_line(n as u32, kind, first, second);
+            Some(next)
         }
     }
 }
 
 // The lines of a trace that is not too long. The loop carries a reader; the work on a record is `print_record`.
-fn print_records(out: &mut [u8], trace: &[u8], log: &[u8], ending: Ending) -> usize
+fn print_records(pen: &mut Pen<'_>, trace: &[u8], log: &[u8], ending: Ending)
     requires { length trace.now ≤ 8192 }
-    ensures { sheet out.new result ≡ text_written (sheet out.old 0) (printed_from (suc (length trace.now)) trace.now 0 0 log.now ending) }
+    ensures { pen.new ≡ written pen.old (printed_from (suc (length trace.now)) trace.now 0 0 log.now ending) }
 {
     let mut reader = trace::reader::new(trace);
-    let mut to: usize = 0;
     let mut n: usize = 0;
-    loop {
-        let found = trace::reader::next_record(reader);
-        let line = print_record(out, to, n, reader.at, found, log, ending);
-        to = line.to;
-        if !line.more {
-            break;
-        }
-        reader = trace::reader::advanced(reader, line.next);
+    while let Some(next) = print_record(pen, n, reader, log, ending) {
+        reader = trace::reader::advanced(reader, next);
         n += 1;
     }
-    to
 }
 
 // What is printed of a replay.
+#[tactic(auto, unfolding(crate::specs::Printed::printed, text::specs::Sheet::written))]
 pub fn print(out: &mut [u8], trace: &[u8], log: &[u8], ending: Ending) -> usize
     ensures { sheet out.new result ≡ text_written (sheet out.old 0) (printed trace.now log.now ending) }
 {
+    let mut pen = Pen { out, at: 0 };
     if trace::too_long(trace.len()) {
-        return text::lines::too_long_line(out, 0);
+        pen.too_long_line();
+    } else {
+        print_records(&mut pen, trace, log, ending);
     }
-    print_records(out, trace, log, ending)
+    pen.at
 }

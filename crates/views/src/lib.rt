@@ -8,24 +8,20 @@ ghost use Rattle.views.specs.Views.{part_from, cpu_view, ppu_view};
 
 use memory::{CpuAddr, PpuAddr, Src};
 use state::State;
-use state::gate::Gate;
 
 // A page's bytes, where the buffer has them all.
+#[tactic(auto, unfolding(crate::specs::Views::part_from))]
 fn part_from(buffer: &[u8], from: usize) -> &[u8]
     ensures { result.now ≡ part_from buffer.now from }
 {
-    if from <= buffer.len() {
-        if 1024 <= buffer.len() - from {
-            &buffer[from..from + 1024]
-        } else {
-            &buffer[..0]
-        }
-    } else {
-        &buffer[..0]
+    match buffer.get(from..) {
+        Some(rest) if 1024 <= rest.len() => &rest[..1024],
+        _ => &buffer[..0],
     }
 }
 
 // What the page at a CPU address shows of PRG-ROM or of PRG-RAM: one lifetime over the two, the part of whichever the page word names.
+#[tactic(auto, unfolding(crate::specs::Views::cpu_view))]
 pub fn cpu_view<'a>(
     s: State,
     prg: &'a [u8],
@@ -38,25 +34,21 @@ pub fn cpu_view<'a>(
     ensures { result.now ≡ cpu_view s (mem_of prg.now chr.now ram.now ciram.now exram.now) addr.0 }
 {
     let gate = state::gate::passed(s, prg.len(), chr.len(), ram.len(), ciram.len(), exram.len());
-    if let Gate::Shut(_) = gate {
+    if gate.is_err() {
         return &prg[..0];
     }
-    let pages = s.prg_pages;
-    let word = cpu::writes::prg_word_at(pages, addr);
+    let word = cpu::writes::prg_word_at(s.prg_pages, addr);
     let page = memory::page_words::page_of(word);
-    let src = page.src;
     let from = page.index as usize * 1024;
-    match src {
-        Src::Blank => &prg[..0],
+    match page.src {
         Src::PrgRom => part_from(prg, from),
         Src::PrgRam => part_from(ram, from),
-        Src::Chr => &prg[..0],
-        Src::CiRam => &prg[..0],
-        Src::ExRam => &prg[..0],
+        _ => &prg[..0],
     }
 }
 
 // What the page at a PPU address shows of CHR.
+#[tactic(auto, unfolding(crate::specs::Views::ppu_view))]
 pub fn ppu_view<'a>(
     s: State,
     prg: &[u8],
@@ -69,20 +61,13 @@ pub fn ppu_view<'a>(
     ensures { result.now ≡ ppu_view s (mem_of prg.now chr.now ram.now ciram.now exram.now) addr.0 }
 {
     let gate = state::gate::passed(s, prg.len(), chr.len(), ram.len(), ciram.len(), exram.len());
-    if let Gate::Shut(_) = gate {
+    if gate.is_err() {
         return &chr[..0];
     }
-    let pages = s.chr_pages;
-    let word = board_ppu::pages::chr_word_at(pages, addr);
+    let word = board_ppu::pages::chr_word_at(s.chr_pages, addr);
     let page = memory::page_words::page_of(word);
-    let src = page.src;
-    let from = page.index as usize * 1024;
-    match src {
-        Src::Blank => &chr[..0],
-        Src::PrgRom => &chr[..0],
-        Src::PrgRam => &chr[..0],
-        Src::Chr => part_from(chr, from),
-        Src::CiRam => &chr[..0],
-        Src::ExRam => &chr[..0],
+    match page.src {
+        Src::Chr => part_from(chr, page.index as usize * 1024),
+        _ => &chr[..0],
     }
 }

@@ -5,9 +5,9 @@ use Rattle.host_replay.proofs.mmc5_replay.Goals as goal
 pub returns-then-too_long : goal.returns-then-too_long
 returns-then-too_long c = too_long_stays _ _ _ _ _ _ c.too_long.ensures c.if-too_long.true c.ending_number.ensures
 
-pub returns-in-Shut : goal.returns-in-Shut
-returns-in-Shut c =
-    shut_stays _ _ _ _ _ _ _ _ c.too_long.ensures c.if-too_long.false c.passed-gate.ensures c.in-Shut.is c.ending_number-in-Shut.ensures
+pub returns-in-Err : goal.returns-in-Err
+returns-in-Err c =
+    shut_stays _ _ _ _ _ _ _ _ c.too_long.ensures c.if-too_long.false c.passed-gate.ensures c.in-Err.is c.ending_number-in-Err.ensures
 
 pub ending_number-requires-2 : goal.ending_number-requires-2
 ending_number-requires-2 c = short_ending _ _ _ _ _ _ _ c.replay-o.ensures

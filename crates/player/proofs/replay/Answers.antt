@@ -6,9 +6,9 @@ pub returns-then-too_long : goal.returns-then-too_long
 unfolding replayed
 returns-then-too_long c = rw (← c.too_long.ensures, c.if-too_long.true, c.refuse.ensures)
 
-pub returns-in-Shut : goal.returns-in-Shut
+pub returns-in-Err : goal.returns-in-Err
 unfolding replayed
-returns-in-Shut c = rw (← c.too_long.ensures, c.if-too_long.false, ← c.passed-gate.ensures, c.in-Shut.is, c.refuse-in-Shut.ensures)
+returns-in-Err c = rw (← c.too_long.ensures, c.if-too_long.false, ← c.passed-gate.ensures, c.in-Err.is, c.refuse-in-Err.ensures)
 
 pub returns : goal.returns
 unfolding replayed

@@ -1,9 +1,6 @@
--- The loop goes by its place.
-use Rattle.std.proofs.Common.{length, ◌-◌, ◌≤◌}
+-- The loop goes by the bytes that are left.
+use Rattle.std.proofs.Common.{length}
 use Rattle.test_fixed_list.proofs.play_all.Given as goal
 
-abbrev pub invariant-loop-at : goal.invariant-loop-at
-invariant-loop-at g l = l.at ≤ length l.cases
-
-abbrev pub decreases-loop-at : goal.decreases-loop-at
-decreases-loop-at g l = length l.cases - l.at
+abbrev pub decreases-loop-case : goal.decreases-loop-case
+decreases-loop-case g l = length l.rest

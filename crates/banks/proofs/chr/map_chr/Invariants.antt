@@ -1,5 +1,5 @@
--- Eight entries from the first on: `placed_next_first`.
-use Prim.Native.Nat.{ℕ, ◌-◌, ◌≤◌}
+-- The places so far, from the first on.
+use Prim.Native.Nat.{ℕ}
 use mathlib.Core.Path.{◌≡◌}
 use Rattle.banks.specs.Chr.{chr_number}
 use Rattle.banks.specs.Placed.{placed}
@@ -8,7 +8,4 @@ use Rattle.memory.specs.declared.Src.TheVariants.{Chr}
 use Rattle.banks.proofs.chr.map_chr.Given as goal
 
 abbrev pub invariant-loop-k : goal.invariant-loop-k
-invariant-loop-k l = (l.k ≤ 8) × (l.next ≡ placed l.initial.next 0 (λ (j : ℕ). chr_window Chr l.lengths.chr (chr_number l.regs l.banks l.background j) l.lengths.chr_writable) l.k)
-
-abbrev pub decreases-loop-k : goal.decreases-loop-k
-decreases-loop-k l = 8 - l.k
+invariant-loop-k l = l.pages ≡ placed l.initial.pages 0 (λ (j : ℕ). chr_window Chr l.lengths.chr (chr_number l.regs l.banks l.background j) l.lengths.chr_writable) l.k

@@ -1,4 +1,4 @@
--- The gate, refusal 6, and then the steps: the bytes first, since no register maps the page that registers are written at (`word_kept`).
+-- Behind the gate the lengths pass; and the bytes come first, since no register maps the page that registers are written at (`word_kept`).
 use mathlib.Core.Path.{sym, ap, ◌∙◌}
 use Rattle.cpu.specs.Writes.{cpu_stored}
 use Rattle.steps.proofs.Idle.{word_kept}
@@ -6,21 +6,6 @@ use Rattle.board.specs.CpuSide.{cpu_write}
 use Rattle.board.specs.Outcomes.{after_of}
 use Rattle.state.proofs.GateLaws.{open_in_range, range_lengths}
 use Rattle.board.proofs.cpu_side.cpu_write.Goals as goal
-
-pub returns-in-Shut : goal.returns-in-Shut
-unfolding cpu_write
-returns-in-Shut c = rw (← c.passed-gate.ensures, c.in-Shut.is, c.refuse.ensures)
-
-pub returns-then-audio_write : goal.returns-then-audio_write
-unfolding cpu_write
-returns-then-audio_write c =
-    rw (
-      ← c.passed-gate.ensures,
-      c.in_default.is,
-      ← c.audio_write.ensures,
-      c.if-audio_write.true,
-      c.refuse-then-audio_write.ensures,
-    )
 
 pub register_written-requires : goal.register_written-requires
 register_written-requires c =

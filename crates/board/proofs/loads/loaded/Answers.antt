@@ -1,6 +1,5 @@
--- Lengths that pass have a last bank and whole pages (`lengths_say`); the rest is what the callees say.
+-- Lengths that pass have a last bank and whole pages (`lengths_say`).
 use native.Mathlib.Omega.{arith}
-use Rattle.board.specs.Loads.{loaded_state}
 use Rattle.state.proofs.SizeLaws.{lengths_say}
 use Rattle.board.proofs.loads.loaded.Goals as goal
 
@@ -9,15 +8,3 @@ overflow_sub-last c = let t = lengths_say _ c.requires in omega (arith, t.prg_le
 
 pub map_prg-prg_pages-requires : goal.map_prg-prg_pages-requires
 map_prg-prg_pages-requires c = let t = lengths_say _ c.requires in (omega (arith, t.prg_whole), t.ram_whole)
-
-pub returns : goal.returns
-unfolding loaded_state
-returns c =
-    rw (
-      c.new-2.ensures,
-      c.new.ensures,
-      c.map_names-chr_pages.ensures,
-      c.map_chr-patterns.ensures,
-      c.map_prg-prg_pages.ensures,
-      c.new-regs.ensures,
-    )

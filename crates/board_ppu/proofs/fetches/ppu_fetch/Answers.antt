@@ -2,24 +2,10 @@
 use mathlib.Core.Path.{sym, ◌∙◌}
 use Rattle.state.proofs.GateLaws.{open_in_range}
 use Rattle.state.proofs.RangeLaws.{ranged}
-use Rattle.board_ppu.specs.Fetch.{ppu_fetch, pattern_pages}
+use Rattle.board_ppu.specs.Fetch.{pattern_pages}
 use Rattle.board_ppu.specs.Peeks.{chr_answer}
 use Rattle.board_ppu.proofs.Made.{fetch_counted, fetch_other}
 use Rattle.board_ppu.proofs.fetches.ppu_fetch.Goals as goal
-
-pub returns-in-Shut : goal.returns-in-Shut
-unfolding ppu_fetch
-returns-in-Shut c = rw (← c.passed-gate.ensures, c.in-Shut.is) c.refuse.ensures
-
-pub returns-then-counter_refused : goal.returns-then-counter_refused
-unfolding ppu_fetch
-returns-then-counter_refused c =
-    rw (
-      ← c.passed-gate.ensures,
-      c.in_default.is,
-      ← c.counter_refused.ensures,
-      c.if-counter_refused.true,
-    ) c.refuse-then-counter_refused.ensures
 
 pub count_fetch-after-requires : goal.count_fetch-after-requires
 count_fetch-after-requires c =

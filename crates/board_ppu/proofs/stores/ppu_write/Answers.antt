@@ -1,13 +1,9 @@
--- The gate, then the store through the page, for the buffers too.
+-- The store through the page, for the buffers too.
 use mathlib.Core.Path.{ap, ◌∙◌}
 use Rattle.memory.proofs.ByteLaws.{stored_low}
 use Rattle.board.specs.Outcomes.{after_of}
 use Rattle.board_ppu.specs.Peeks.{ppu_write}
 use Rattle.board_ppu.proofs.stores.ppu_write.Goals as goal
-
-pub returns-in-Shut : goal.returns-in-Shut
-unfolding ppu_write
-returns-in-Shut c = rw (← c.passed-gate.ensures, c.in-Shut.is, c.refuse.ensures)
 
 pub returns : goal.returns
 unfolding ppu_write

@@ -1,13 +1,8 @@
 -- Words that are no state in range are refused and stay; else only the detector changes.
 use Rattle.host_state.specs.Words.{state_of}
 use Rattle.host.proofs.HostLaws.{in_range_said}
-use Rattle.host.proofs.CallLaws.{broken_left, clock_broken, clock_left, idle_small}
+use Rattle.host.proofs.CallLaws.{clock_left, idle_small}
 use Rattle.host.proofs.clocks.mmc5_clock.Goals as goal
-
-pub returns-then-not-in_range : goal.returns-then-not-in_range
-returns-then-not-in_range c =
-    let w = c.args.words.now in
-    broken_left w _ _ _ c.in_range.ensures c.if-not-in_range.true (clock_broken (state_of w)) c.plain.ensures
 
 pub clock-after-requires : goal.clock-after-requires
 clock-after-requires c =
@@ -17,5 +12,5 @@ clock-after-requires c =
 pub returns : goal.returns
 returns c =
     let w = c.args.words.now in
-    clock_left w _ _ _ _ c.sized.ensures (in_range_said w _ c.in_range.ensures c.if-not-in_range.false)
+    clock_left w _ _ _ _ c.told-words (in_range_said w _ c.in_range.ensures c.if-not-in_range.false)
     c.detector_of-before.ensures c.clock-after.ensures c.put_detector.ensures c.with_interrupt.ensures

@@ -12,12 +12,12 @@ use Rattle.host.proofs.HostLaws.{refused_left, shut_said, open_said, open_in_ran
 use Rattle.host.proofs.FetchLaws.{counter_said, groups_ranged, counted_left, other_left}
 use Rattle.host.proofs.fetches.mmc5_ppu_fetch.Goals as goal
 
-pub returns-in-Shut : goal.returns-in-Shut
-returns-in-Shut c =
+pub returns-in-Err : goal.returns-in-Err
+returns-in-Err c =
     let a = c.args in
     let w = a.words.now in
     let m = mem_of a.prg.now a.chr.now a.ram.now a.ciram.now a.exram.now in
-    let shut = shut_said w m _ _ c.passed-gate.ensures c.in-Shut.is in
+    let shut = shut_said w m _ _ c.passed-gate.ensures c.in-Err.is in
     refused_left w _ _ _ (ap (λ (o : Outcome). o.answer) (who_is_refused.fetch_shut (state_of w) m _ _ shut)) c.plain.ensures
 
 pub returns-then-counter_refused : goal.returns-then-counter_refused
@@ -48,7 +48,7 @@ returns-then-counted c =
     let in-limit =
     counter_said (state_of w) _ _ false _ c.detector_of-irq.ensures c.counter_refused.ensures c.if-counter_refused.false
     in
-    counted_left w m _ _ _ _ _ c.sized.ensures passed in-limit
+    counted_left w m _ _ _ _ _ c.told-words passed in-limit
     c.regs_of-regs.ensures c.detector_of-irq.ensures c.status_of-ppu.ensures c.split_of-vsplit.ensures
     _ _ _ _ _ _ _ _ _ (sym c.counted.ensures ∙ c.if-counted.true)
     c.count_fetch-counted.ensures.0 c.count_fetch-counted.ensures.1.0 c.count_fetch-counted.ensures.1.1
@@ -72,7 +72,7 @@ returns c =
     let m = mem_of a.prg.now a.chr.now a.ram.now a.ciram.now a.exram.now in
     let passed = open_said w m _ c.passed-gate.ensures c.in_default.is in
     let other = sym c.counted.ensures ∙ c.if-counted.false in
-    other_left w m _ _ _ _ _ c.sized.ensures passed (uncounted _ _ other)
+    other_left w m _ _ _ _ _ c.told-words passed (uncounted _ _ other)
     c.regs_of-regs.ensures c.detector_of-irq.ensures c.status_of-ppu.ensures c.split_of-vsplit.ensures
     _ _ _ _ _ _ other
     c.chosen_at-chosen.ensures c.map_on_change.ensures c.chr_word-word-2.ensures

@@ -4,11 +4,11 @@ use Rattle.host.proofs.HostLaws.{open_said}
 use Rattle.host.proofs.CallLaws.{read_shut, read_audio, read_left}
 use Rattle.host.proofs.reads.mmc5_cpu_read.Goals as goal
 
-pub returns-in-Shut : goal.returns-in-Shut
-returns-in-Shut c =
+pub returns-in-Err : goal.returns-in-Err
+returns-in-Err c =
     let a = c.args in
     let m = mem_of a.prg.now a.chr.now a.ram.now a.ciram.now a.exram.now in
-    read_shut a.words.now m _ _ _ _ c.passed-gate.ensures c.in-Shut.is c.plain.ensures
+    read_shut a.words.now m _ _ _ _ c.passed-gate.ensures c.in-Err.is c.plain.ensures
 
 pub returns-then-audio_read : goal.returns-then-audio_read
 returns-then-audio_read c =
@@ -21,7 +21,7 @@ pub returns : goal.returns
 returns c =
     let a = c.args in
     let m = mem_of a.prg.now a.chr.now a.ram.now a.ciram.now a.exram.now in
-    read_left a.words.now _ m _ _ _ _ _ _ _ _ _ _ _ c.sized.ensures
+    read_left a.words.now _ m _ _ _ _ _ _ _ _ _ _ _ c.told-words
     (open_said a.words.now m _ c.passed-gate.ensures c.in_default.is)
     c.audio_read.ensures c.if-audio_read.false c.prg_word-word.ensures c.regs_of-regs.ensures
     c.split_of-vsplit.ensures c.detector_of-irq.ensures c.prg_banks_of-prg_banks.ensures

@@ -10,10 +10,10 @@ use Rattle.host.proofs.WriteLaws.{idle_words, bytes_stored, write_shut, write_au
 use Rattle.host.proofs.writes.mmc5_cpu_write.Goals as goal
 use Rattle.host.proofs.writes.mmc5_cpu_write.Goals.{then-is_within+then-maps_prg, then-is_within+else-maps_prg, else-is_within}
 
-pub returns-in-Shut : goal.returns-in-Shut
-returns-in-Shut c =
+pub returns-in-Err : goal.returns-in-Err
+returns-in-Err c =
     let a = c.args in
-    write_shut a.words.now (mem_of a.prg.now a.chr.now a.ram.now a.ciram.now a.exram.now) a.addr a.val _ _ _ c.passed-gate.ensures c.in-Shut.is c.plain.ensures
+    write_shut a.words.now (mem_of a.prg.now a.chr.now a.ram.now a.ciram.now a.exram.now) a.addr a.val _ _ _ c.passed-gate.ensures c.in-Err.is c.plain.ensures
 
 pub returns-then-audio_write : goal.returns-then-audio_write
 returns-then-audio_write c =
@@ -42,7 +42,7 @@ returns c =
     elim c.if-is_within.branch [
       | then-is_within+then-maps_prg x ↦ x.words-is ∙ x.write_prg.ensures
       | then-is_within+else-maps_prg x ↦ x.words-is ∙ x.write_other.ensures
-      | else-is_within x ↦ x.words-is ∙ idle_words w a.addr a.val c.sized.ensures ranged (sym c.is_within.ensures ∙ x.if-is_within.false)
+      | else-is_within x ↦ x.words-is ∙ idle_words w a.addr a.val c.told-words ranged (sym c.is_within.ensures ∙ x.if-is_within.false)
     ] in
     write_done w m a.addr a.val _ _ m' _ _ _ c.passed-gate.ensures c.in_default.is c.audio_write.ensures c.if-audio_write.false
     (bytes_stored w m m' a.addr a.val _ _ _ ranged c.regs_of-regs.ensures c.status_of-ppu.ensures c.prg_word-word.ensures (c.store.ensures a.prg.now))

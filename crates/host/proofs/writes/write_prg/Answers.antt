@@ -10,7 +10,7 @@ write_prg-w-requires c =
 
 pub returns : goal.returns
 returns c =
-    prg_words c.args.words.now c.args.addr.0 c.args.val c.sized.ensures c.requires.0
+    prg_words c.args.words.now c.args.addr.0 c.args.val c.told-words c.requires.0
     _ _ _ _ _ _ _ _ c.requires.1
     c.lengths_of-lengths.ensures c.regs_of-regs.ensures
     c.prg_banks_of-banks.ensures c.prg_table-pages.ensures

@@ -1,11 +1,12 @@
--- Each bank in turn: the loop keeps `Putting`.
-use native.Mathlib.Omega.{arith}
-use Rattle.host_state.proofs.PartLaws.{put_first, put_next}
-use borrow.Author.Rules.{rules}
+-- The banks as words, pasted at 42.
+use Rattle.std.proofs.Common.{ℕ, refl, ◌∙◌, rules}
+use Rattle.std.proofs.lemmas.List.{map-id}
+use Rattle.std.proofs.lemmas.Slice.{put_mid-paste}
+use Rattle.host_state.proofs.ArrayLaws.{array_mapped}
 use Rattle.host_state.proofs.groups.put_prg_banks.Goals as goal
 
-pub loop-i-init : goal.loop-i-init
-loop-i-init c = put_first _ _ 42 5 (omega (arith, c.sized.ensures)) (search rules)
-
-pub loop-i-preserved : goal.loop-i-preserved
-loop-i-preserved c = put_next _ _ 42 5 _ _ _ c.loop-i.invariant (search rules) c.as_word.ensures
+pub returns : goal.returns
+returns c =
+    let b = c.args.b in
+    let words = array_mapped (λ (x : ℕ). x) b 0 5 (search rules) c.map.ensures.items (λ p x y q called. search rules) in
+    put_mid-paste 42 5 c.args.words.now _ _ 5 (c.copy_from_slice.ensures.after ∙ words ∙ map-id b) refl (search rules)

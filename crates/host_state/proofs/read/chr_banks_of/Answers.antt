@@ -1,13 +1,8 @@
--- Each bank in turn: the loop keeps `Taking`.
-use mathlib.Core.Path.{refl}
-use native.Mathlib.Omega.{arith}
+-- Each bank is the low byte of its word.
+use Rattle.std.proofs.Common.{rules}
 use Rattle.host_state.specs.Words.{low_byte}
-use Rattle.host_state.proofs.PartLaws.{take_first, take_next}
-use borrow.Author.Rules.{rules}
+use Rattle.host_state.proofs.ArrayLaws.{part_made}
 use Rattle.host_state.proofs.read.chr_banks_of.Goals as goal
 
-pub loop-i-init : goal.loop-i-init
-loop-i-init c = take_first low_byte _ 47 16 _ (omega (arith, c.sized.ensures)) (search rules)
-
-pub loop-i-preserved : goal.loop-i-preserved
-loop-i-preserved c = take_next low_byte _ 47 16 _ _ _ c.loop-i.invariant (search rules) refl
+pub returns : goal.returns
+returns c = part_made low_byte c.args.words.now 47 16 (search rules) c.from_fn.ensures.items (λ i y q small call. search rules)

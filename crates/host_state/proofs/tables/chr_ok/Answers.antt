@@ -1,10 +1,12 @@
--- All 16 words are tested: the loop keeps `Asking`.
-use native.Mathlib.Omega.{arith}
-use Rattle.host_state.proofs.PartLaws.{ask_first, ask_next}
+-- Every word is asked.
+use Rattle.std.proofs.Common.{true, ◌∙◌, rules}
+use Rattle.std.proofs.lemmas.Iterator.{YieldsList-from_slice}
+use Rattle.std.proofs.lemmas.Iterator.Consumers.{fold_from_yields_List}
+use Rattle.host_state.specs.Words.{chr_numbers}
+use Rattle.host_state.proofs.FoldLaws.{all_asked}
 use Rattle.host_state.proofs.tables.chr_ok.Goals as goal
 
-pub loop-i-init : goal.loop-i-init
-loop-i-init c = ask_first _ _ 128 16 (omega (arith, c.sized.ensures))
-
-pub loop-i-preserved : goal.loop-i-preserved
-loop-i-preserved c = ask_next _ _ 128 16 _ _ _ c.loop-i.invariant c.loop-i-test.true c.chr_word_ok-one.ensures
+pub returns : goal.returns
+returns c =
+    fold_from_yields_List _ _ true _ c.fold.ensures.ran (YieldsList-from_slice (chr_numbers c.args.words.now) (cc)) (λ a x b q k. search rules)
+    ∙ all_asked _ true (chr_numbers c.args.words.now)

@@ -1,10 +1,11 @@
 -- Group by group, then the tables.
+use Rattle.std.proofs.Common.{rules}
 use Rattle.host_state.proofs.PutLaws.{steps_put}
 use Rattle.host_state.proofs.whole_state.put_state.Goals as goal
 
 pub returns : goal.returns
 returns c =
-    steps_put c.args.s c.args.words.now _ _ _ _ _ _ _ _ _ _ c.sized.ensures c.arrays_sized.ensures.0 c.arrays_sized.ensures.1.0 c.arrays_sized.ensures.1.1.0 c.arrays_sized.ensures.1.1.1
+    steps_put c.args.s c.args.words.now _ _ _ _ _ _ _ _ _ _ c.told-words (search rules) (search rules) (search rules) (search rules)
     c.put_lengths.ensures
     c.put_regs.ensures
     c.put_split.ensures

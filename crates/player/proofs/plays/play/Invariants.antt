@@ -7,9 +7,9 @@ use Rattle.player.specs.Replay.{played}
 use Rattle.player.proofs.Steps.{Going}
 use Rattle.player.proofs.plays.play.Given as goal
 
-abbrev pub invariant-loop-why : goal.invariant-loop-why
-invariant-loop-why l =
+abbrev pub invariant-loop-record : goal.invariant-loop-record
+invariant-loop-record l =
     Going l.trace (played l.initial.t l.trace (mem_of l.prg l.initial.chr l.initial.ram l.initial.ciram l.initial.exram) l.initial.log) (mem_of l.prg l.initial.chr l.initial.ram l.initial.ciram l.initial.exram) l.initial.log l.at l.count l.t (mem_of l.prg l.chr l.ram l.ciram l.exram) l.log
 
-abbrev pub decreases-loop-why : goal.decreases-loop-why
-decreases-loop-why l = length l.trace - l.at
+abbrev pub decreases-loop-record : goal.decreases-loop-record
+decreases-loop-record l = length l.trace - l.at

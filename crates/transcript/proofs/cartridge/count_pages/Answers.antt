@@ -1,9 +1,10 @@
 -- Byte after byte.
-use Rattle.transcript.proofs.Counting.{none, next}
+use mathlib.Core.Path.{refl}
+use Rattle.banks.proofs.PlacedLaws.{placed_none, placed_next_first}
 use Rattle.transcript.proofs.cartridge.count_pages.Goals as goal
 
 pub loop-i-init : goal.loop-i-init
-loop-i-init c = none _ _
+loop-i-init c = placed_none _ 0 _
 
 pub loop-i-preserved : goal.loop-i-preserved
-loop-i-preserved c = next _ _ _ _ c.loop-i.invariant c.loop-i-test.true
+loop-i-preserved c = placed_next_first _ _ _ _ _ c.loop-i.invariant refl

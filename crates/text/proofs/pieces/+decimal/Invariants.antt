@@ -1,5 +1,0 @@
--- `decimal` calls itself with a tenth of its number, so the measure is the number.
-use Rattle.text.proofs.pieces.+decimal.Given as goal
-
-abbrev pub decreases-decimal : goal.decreases-decimal
-decreases-decimal l = l.n
