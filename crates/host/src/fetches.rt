@@ -87,7 +87,7 @@ pub fn mmc5_ppu_fetch(
     let chosen = ppu_side::chosen_at(ppu, irq.in_frame, at);
     map_on_change(ppu.bg_set, chosen.bg_set, words);
     let word = tables::chr_word(words, at);
-    let answer = ppu_side::other_answer(regs, vsplit, irq, chosen, word, lent, at);
     groups::put_set(chosen, words);
+    let answer = ppu_side::other_answer(regs, vsplit, irq, chosen, word, lent, at);
     host_answers::with_interrupt(answer, irq)
 }

@@ -59,14 +59,17 @@ pub fn mmc5_ppu_entry(words: &[u16; 144], addr: u16) -> u32
     entry(words, tables::chr_word(words, PpuAddr(addr)))
 }
 
-// A page's bytes, copied where there are 1,024 bytes and room for just so many: how many, 0 or 1,024, as C is told.
+// A page's bytes, copied where there are 1,024 bytes and room for just so many: how many, 0 or 1,024, as C is told. Byte by byte, which the compiler makes
+// sixteen: `copy_from_slice` would be a call of `memmove`, and the archive for C would want that name from outside (docs/HOST.md).
 fn copy(part: &[u8], out: &mut [u8]) -> u32
     ensures { copied_of result out.new ≡ copied part.now out.old }
 {
     if (part.len() != 1024) | (out.len() != 1024) {
         return 0;
     }
-    out.copy_from_slice(part);
+    for (i, to) in out.iter_mut().enumerate() {
+        *to = part[i];
+    }
     1024
 }
 

@@ -6,7 +6,9 @@ ghost use Rattle.host_state.specs.Words.{status_of, with_no_tile, within_limits,
 use crate::{groups, limits, read, tables};
 use state::{PpuStatus, Screen, State};
 
-// The status that words stand for: out of range where a word is above its limit.
+// The status that words stand for: out of range where a word is above its limit. A call of its own: with the loop over the limits in it, `state_of` would
+// have each of its callers clear the state's place by `memset` first, and the archive for C would want that name from outside (docs/HOST.md).
+#[inline(never)]
 fn status_within(words: &[u16; 144]) -> PpuStatus
     ensures { result ≡ pick (within_limits words.now) (status_of words.now) (with_no_tile (status_of words.now)) }
 {
@@ -21,15 +23,17 @@ fn status_within(words: &[u16; 144]) -> PpuStatus
     }
 }
 
+// The status first, so that nothing else need be kept over that call.
 pub fn state_of(words: &[u16; 144]) -> State
     ensures { result ≡ state_of words.now }
 {
+    let ppu = status_within(words);
     State {
         lengths: read::lengths_of(words),
         regs: read::regs_of(words),
         vsplit: read::split_of(words),
         irq: read::detector_of(words),
-        ppu: status_within(words),
+        ppu,
         screen: Screen {
             mirroring: read::mirroring_of(words),
         },
