@@ -72,10 +72,9 @@ handed_on r h = let p = err_from_is_err_and r h in rw p.1 (ap (λ (y : Refusal).
 -- A record with an address, and one with a value too, by what was read of it.
 module _ (t : List ℕ) (at kind k : ℕ) (stands : (at < length t) × ((d : ℕ) → kind ≡ get_or t at d)) (is : kind ≡ k) where
   pub with_address : (make : ℕ → Call) → form_of k ≡ address (λ (a : ℕ). whole (make a))
-      → {r : Result (ℕ × ℕ) Refusal} → numbered (address_at t (at + 1)) (λ (a next : ℕ). Ok (a, next)) ≡ r
-      → after r (λ (p : ℕ × ℕ). Record (make p.0) p.1) ≡ record_at t at
+      → {r : Numeral} → address_at t (at + 1) ≡ r → numbered r (λ (a next : ℕ). Record (make a) next) ≡ record_at t at
   unfolding filled
-  with_address make form e = rw (kind_stands t at kind stands, is, form) (sym (read_on (address_at t (at + 1)) (λ (a next : ℕ). Record (make a) next) e))
+  with_address make form e = rw (kind_stands t at kind stands, is, form, ← e)
 
   pub with_both : (make : ℕ → ℕ → Call) → form_of k ≡ address (λ (a : ℕ). value (λ (v : ℕ). whole (make a v)))
       → {r : Result (ℕ × ℕ × ℕ) Refusal} → numbered (address_at t (at + 1)) (λ (a behind : ℕ). numbered (value_at t behind) (λ (v next : ℕ). Ok (a, v, next))) ≡ r

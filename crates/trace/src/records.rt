@@ -25,19 +25,29 @@ fn address_and_value(trace: &[u8], at: usize) -> Result<(u16, u8, usize), Refusa
     Ok((address, value as u8, next))
 }
 
-// What stands at a place of a trace. The refused record's place is `at`, the offset of its kind byte.
+// What stands at a place of a trace, the kinds that traces have most asked first. The refused record's place is `at`, the offset of its kind byte.
+#[tactic(auto, using(crate::proofs::NumberLaws::within_limit, crate::proofs::RecordLaws::none_left))]
 pub fn record_at(trace: &[u8], at: usize) -> Found
     ensures { result ≡ record_at trace.now at }
 {
     let Some(&kind) = trace.get(at) else {
         return Ok(None);
     };
+    if kind == 4 {
+        let (address, next) = numbers::address_at(trace, at + 1)?;
+        return Ok(Some((Call::PpuFetch(PpuAddr(address as u16)), next)));
+    }
+    if kind == 0 {
+        return Ok(Some((Call::Clock, at + 1)));
+    }
+    if kind == 1 {
+        let (address, next) = numbers::address_at(trace, at + 1)?;
+        return Ok(Some((Call::CpuRead(CpuAddr(address as u16)), next)));
+    }
+    if kind == 5 {
+        return Ok(Some((Call::Reset, at + 1)));
+    }
     let (call, next) = match kind {
-        0 => (Call::Clock, at + 1),
-        1 => {
-            let (address, next) = address(trace, at + 1)?;
-            (Call::CpuRead(CpuAddr(address)), next)
-        }
         2 => {
             let (address, value, next) = address_and_value(trace, at + 1)?;
             (Call::CpuWrite(CpuAddr(address), value), next)
@@ -46,11 +56,6 @@ pub fn record_at(trace: &[u8], at: usize) -> Found
             let (address, value, next) = address_and_value(trace, at + 1)?;
             (Call::PpuRegister(CpuAddr(address), value), next)
         }
-        4 => {
-            let (address, next) = address(trace, at + 1)?;
-            (Call::PpuFetch(PpuAddr(address)), next)
-        }
-        5 => (Call::Reset, at + 1),
         6 => {
             let (address, value, next) = address_and_value(trace, at + 1)?;
             (Call::PpuWrite(PpuAddr(address), value), next)
