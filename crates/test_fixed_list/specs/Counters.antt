@@ -1,6 +1,7 @@
--- The state that the trace of a case starts from, by what follows the trace. Words in quotes are those of oracle/README.md, "The fixed list" and
--- "A case in bytes".
-use Rattle.std.specs.Prelude.{ℕ, ◌+◌, ◌*◌, true, List, get_or}
+-- The state that the trace of a case starts from, by the case's first byte and by the bytes after its trace. Words in quotes are those of
+-- oracle/README.md, "The fixed list" and "A case in bytes".
+use Rattle.std.specs.Prelude.{ℕ, ◌+◌, ◌*◌, true, ◌&&◌, List, eqb, leb, length, get_or}
+use Rattle.memory.specs.Tests.{pick}
 use Rattle.scanline.specs.declared.Detector.{Detector}
 use Rattle.scanline.specs.Tiles.{fold}
 use Rattle.state.specs.declared.PpuStatus.{PpuStatus}
@@ -28,7 +29,12 @@ with_tile p tile = record p { tile_number = tile }
 abbrev pub is_in_frame : ℕ → ℕ → State → State
 is_in_frame line tile s = with_ppu (with_irq s (with_line s.irq line)) (with_tile s.ppu tile)
 
--- A case that "has counters" starts so, with the fold of its tile count; every other one starts from the state as it is.
+-- A case whose first byte is "3 if it has counters" starts so, with the fold of its tile count, where all six bytes are there; every other one starts from the
+-- state as it is.
+unfoldable pub start_by : ℕ → List ℕ → State → State
+start_by kind b s = pick (eqb kind 3 && leb 6 (length b)) (is_in_frame (line_of b) (fold (tile_of b)) s) s
+
+-- The same, of what stands behind the trace as it was read: a case that "has counters".
 abbrev pub start_of : After → State → State
 start_of Nothing s = s
 start_of (Peeks _) s = s

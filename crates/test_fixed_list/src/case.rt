@@ -1,5 +1,7 @@
 // A case of a case file: its cartridge, its trace, and what follows the trace. oracle/README.md, "A case in bytes".
-ghost use Rattle.std.specs.Prelude.{◌<◌, ◌≤◌, length, IfSome};
+ghost use Rattle.std.specs.Prelude.{◌≡◌, ◌<◌, ◌≤◌, length, IfSome};
+ghost use Rattle.state.specs.declared.State.{State};
+ghost use Rattle.test_fixed_list.specs.Counters.{start_by, start_of};
 
 use board::loads::Settings;
 use registers::Mirroring;
@@ -25,8 +27,10 @@ pub struct Case<'a> {
 }
 
 // What follows the trace, by the first byte of its case, and the bytes after that.
+#[tactic(auto, unfolding(crate::specs::Counters::start_by))]
 fn after_trace<'a>(kind: u8, rest: &'a [u8]) -> Option<(After<'a>, &'a [u8])>
-    ensures { IfSome result (λ a. length a.1.now ≤ length rest.now) }
+    ensures { IfSome result (λ a. (length a.1.now ≤ length rest.now)
+        × ((s : State) → start_of a.0 s ≡ start_by kind rest.now s)) }
 {
     match kind {
         2 => {
