@@ -1,6 +1,6 @@
 // A byte read or stored through a page word, in the five buffers that the caller lends. Blank reads 0 and takes no write, and so
-// does a place past a buffer's end: these functions ask nothing of the word. The buffers go one by one, as callers are lent them: a struct of
-// them would ask callers to make one. The clauses have it as `mem_of`.
+// does a place past a buffer's end: these functions ask nothing of the word. Those that are stored to go one by one, as callers
+// are lent them, and the clauses have them as `mem_of`; a read takes all five as `Lent`.
 ghost use Rattle.std.specs.Prelude.{◌≡◌, ℕ, List, slice_index, slice_set};
 ghost use Rattle.memory.specs.PageWords.{page_of};
 ghost use Rattle.memory.specs.Bytes.{mem_of, stored_at, page_stored};
