@@ -22,7 +22,7 @@ use Rattle.trace.specs.Records.{record_at, too_long}
 use Rattle.trace.proofs.RecordLaws.{record_advances}
 use Rattle.calls.specs.Called.{called}
 use Rattle.player.specs.declared.Replayed.{Replayed}
-use Rattle.player.specs.Replay.{Ending, Stopped, Left, left_of, ended, played_from, replayed}
+use Rattle.player.specs.Replay.{Ending, Done, Stopped, Left, left_of, ended, played_from, replayed}
 use Rattle.player.proofs.Ways.{by_found}
 use Rattle.theorems_promises.proofs.Gates.{in_range_of}
 use Rattle.host_state.specs.Words.{state_of, words_of}
@@ -73,6 +73,12 @@ short s trace m log =
 -- The ending of a replay that was played.
 pub short_ending : (s : State) (trace : List ℕ) (m m' : Mem) (log log' : List ℕ) (o : Replayed) → left_of o m' log' ≡ replayed s trace m log → last_of o.ending ≤ 8192
 short_ending s trace m m' log log' o e = subst (Within 8192) (sym e) (short s trace m log)
+
+pub done_short : (e : Ending) (count : ℕ) → e ≡ Done count → last_of e ≤ 8192 → count ≤ 8192
+done_short e count t h = rw t at h
+
+pub stopped_short : (e : Ending) (place : ℕ) (why : Refusal) → e ≡ Stopped place why → last_of e ≤ 8192 → place ≤ 8192
+stopped_short e place why t h = rw t at h
 
 pub apart_of : (e : Ending) → last_of e ≤ 8192 → TakenApart e
 apart_of (Ok n) h = (omega (arith, h), omega (arith, h))

@@ -18,10 +18,10 @@ pub scroll_small : (line : ℕ) (prefetched : Bool) (y : ℕ) → scroll_of line
 scroll_small line prefetched y = omega arith
 
 -- The row of the split tile: 32 tiles for each eight lines.
-row_digits : (scroll : ℕ) → (scroll AND 0xF8) << 2 ≡ scroll / 8 % 32 * 32
+pub row_digits : (scroll : ℕ) → (scroll AND 0xF8) << 2 ≡ scroll / 8 % 32 * 32
 row_digits scroll = omega (arith, and_high scroll 5 3)
 
-split_address_digits : (scroll column : ℕ) → split_address scroll column ≡ (scroll / 8 % 32 * 32) OR column
+pub split_address_digits : (scroll column : ℕ) → split_address scroll column ≡ (scroll / 8 % 32 * 32) OR column
 unfolding split_address
 split_address_digits scroll column = ap (λ (n : ℕ). n OR column) (row_digits scroll)
 
